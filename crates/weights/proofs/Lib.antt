@@ -1,0 +1,4 @@
+pub mod Rows
+pub mod Falling
+pub mod Walk
+pub mod Trim
