@@ -1,0 +1,5 @@
+pub mod Model
+pub mod Residues
+pub mod ResidueLaws
+pub mod Models
+pub mod Meanings
