@@ -1,0 +1,4 @@
+pub mod Walks
+pub mod Groups
+pub mod Sums
+pub mod Passes
