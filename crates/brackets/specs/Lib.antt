@@ -1,0 +1,3 @@
+pub mod Bonferroni
+pub mod Readings
+pub mod Words
