@@ -1,0 +1,5 @@
+pub mod Fronts
+pub mod Heads
+pub mod Records
+pub mod Reached
+pub mod Thresholds

@@ -1,0 +1,15 @@
+use mathlib.Core.Path.{_≡_, refl, ap}
+use mathlib.Core.List.{[], _∷_}
+use Prim.Native.Nat.{ℕ}
+use native.Mathlib.Omega.{arith}
+use borrow.Author.Needs.{needs}
+use Rattle.sheet_file.specs.Layout.{big-endian}
+use Rattle.sheet_file.proofs.Fronts.{elements, first-elements}
+use Rattle.sheet_file.proofs.filed.PlainFiled.split_weights.Needs as need
+
+pub returns : need.returns
+returns c =
+    let bytes = c .args .fields .now in
+    let word = λ (i : ℕ). big-endian (elements 2 i bytes) in
+    let first : c .from-be-bytes .result ≡ word 1 = omega (arith, c .from-be-bytes .ensures) in
+    record { answer = (elements 2 1 bytes, first-elements 3 bytes (search needs), refl, ap (λ w. w ∷ 0 ∷ 0 ∷ []) first) }
