@@ -1,0 +1,6 @@
+// The report on a sheet file.
+mod lines;
+mod whole;
+
+pub use whole::LONGEST;
+pub use whole::report;
