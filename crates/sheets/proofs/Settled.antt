@@ -5,7 +5,7 @@ use mathlib.Core.Bool.{cond}
 use mathlib.Core.List.{List, [], _∷_, _++_, map}
 use Prim.Native.Nat.{ℕ, zero, suc, _≤_, _<_}
 use native.Mathlib.Omega.{arith}
-use lib.ListN.{length, getD, set, length-append, length-map}
+use lib.ListN.{length, getD, length-append, length-map}
 use Rattle.std.specs.Results.{isOk}
 use Rattle.std.specs.declared.result.Result.{Result}
 use Rattle.std.specs.declared.result.Result.the-variants.{Ok, Err}
@@ -13,6 +13,7 @@ use Rattle.std.proofs.shelf.Lists.{map-append, getD-append-left, getD-push, get
 use Rattle.std.proofs.shelf.Tests.{cases-lt, cases-eq}
 use Rattle.needs.specs.Levels.{Need, Covers, width}
 use Rattle.weights.specs.Chances.{trimmed}
+use Rattle.weights.proofs.Rows.{set-row as row-set}
 use Rattle.sheets.specs.declared.refusal.Refusal.{Refusal}
 use Rattle.sheets.specs.Standings.{Standing, fitted, weighted}
 use Rattle.sheets.specs.Causes.{Asks-from, Accepted, causes}
@@ -39,14 +40,6 @@ trimmed-trimmed : (top : ℕ) (row : List ℕ) → trimmed top (trimmed top row)
 trimmed-trimmed top [] = refl
 trimmed-trimmed zero (w ∷ row) = ap (λ rest. 0 ∷ rest) (trimmed-trimmed zero row)
 trimmed-trimmed (suc top) (w ∷ row) = ap (λ rest. w ∷ rest) (trimmed-trimmed top row)
-
--- what holds of a new row, and of what a place had, holds of what it has once the row is written
-row-set : (P : List ℕ → Type 0) (card : List (List ℕ)) (i : ℕ) (row : List ℕ) (j : ℕ) → P row → P (getD card j []) → P (getD (set card i row) j [])
-row-set P [] i row j new old = old
-row-set P (x ∷ card) zero row zero new old = new
-row-set P (x ∷ card) zero row (suc j) new old = old
-row-set P (x ∷ card) (suc i) row zero new old = old
-row-set P (x ∷ card) (suc i) row (suc j) new old = row-set P card i row j new old
 
 module _ {K : Type 0} (levels : K → Need) (top : ℕ) where
   abbrev need-of : List K → ℕ → Need
@@ -100,7 +93,7 @@ module _ {K : Type 0} (levels : K → Need) (top : ℕ) where
         known = settled .known;
         asking = settled .asking;
         spare = λ j from h. getD-set-other (s .card) i j (trimmed top row) [] (λ same. has (omega arith)) ∙ settled .spare j from h;
-        neat = λ j h. row-set (λ r. trimmed top r ≡ r) (s .card) i (trimmed top row) j (trimmed-trimmed top row) (settled .neat j h);
+        neat = λ j h. row-set (λ k r. trimmed top r ≡ r) (s .card) i (trimmed top row) j (trimmed-trimmed top row) (settled .neat j h);
       }
 
   -- a call that is accepted or changes nothing

@@ -1,17 +1,12 @@
 -- Rows that fall up to every level: trimmed ones, and those of a card that is blank or has one written. Assumes nothing.
-use mathlib.Core.Path.{_≡_, refl}
 use mathlib.Core.Logic.{inl, inr}
-use mathlib.Core.List.{List, [], _∷_}
-use Prim.Native.Nat.{ℕ, zero, suc, _≤_}
+use mathlib.Core.List.{List, []}
+use Prim.Native.Nat.{ℕ, zero, suc}
 use native.Mathlib.Omega.{arith}
 use lib.ListN.{getD, set, replicate}
 use Rattle.std.proofs.shelf.Tests.{cases-lt}
-use Rattle.weights.specs.Chances.{weight, Falling, trimmed}
-use Rattle.weights.proofs.Rows.{trimmed-below, trimmed-from}
-
-weight-trimmed : (top : ℕ) (row : List ℕ) (l : ℕ) → l ≤ top → weight (trimmed top row) l ≡ weight row l
-weight-trimmed top row zero h = refl
-weight-trimmed top row (suc l) h = trimmed-below top row l (omega arith)
+use Rattle.weights.specs.Chances.{Falling, trimmed}
+use Rattle.weights.proofs.Rows.{weight-trimmed, trimmed-below, trimmed-from, set-row}
 
 pub trimmed-falling : (top : ℕ) (row : List ℕ) → Falling top row → (k : ℕ) → Falling k (trimmed top row)
 trimmed-falling top row falls k l h =
@@ -30,8 +25,4 @@ pub blank-falling : (i k : ℕ) → Falling k (getD (replicate 8 (replicate 3 0)
 blank-falling i k = copies-falling 8 i k (replicate 3 0) (trimmed-falling 0 (replicate 3 0) (λ l h. omega arith) k)
 
 pub set-falling : (card : List (List ℕ)) (i : ℕ) (row : List ℕ) (k : ℕ) → ((j : ℕ) → Falling k (getD card j [])) → Falling k row → (j : ℕ) → Falling k (getD (set card i row) j [])
-set-falling [] i row k all falls j = all j
-set-falling (x ∷ card) zero row k all falls zero = falls
-set-falling (x ∷ card) zero row k all falls (suc j) = all (suc j)
-set-falling (x ∷ card) (suc i) row k all falls zero = all zero
-set-falling (x ∷ card) (suc i) row k all falls (suc j) = set-falling card i row k (λ n. all (suc n)) falls j
+set-falling card i row k all falls j = set-row (λ i. Falling k) card i row j falls (all j)

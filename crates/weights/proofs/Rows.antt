@@ -1,9 +1,9 @@
--- Weights above level 0, and what trimming leaves of a row. Assumes nothing.
+-- Weights above level 0, what trimming leaves of a row, and a row written into a card. Assumes nothing.
 use mathlib.Core.Path.{_≡_, refl, ap, _∙_}
 use mathlib.Core.List.{List, [], _∷_}
 use Prim.Native.Nat.{ℕ, zero, suc, _-_, _≤_, _<_}
 use native.Mathlib.Omega.{arith}
-use lib.ListN.{length, getD}
+use lib.ListN.{length, getD, set}
 use Rattle.std.proofs.shelf.Lists.{getD-past}
 use Rattle.weights.specs.Chances.{weight, chance, trimmed}
 
@@ -32,7 +32,19 @@ trimmed-from zero (w ∷ row) (suc k) h = trimmed-from zero row k (omega arith)
 trimmed-from (suc top) (w ∷ row) zero h = omega arith
 trimmed-from (suc top) (w ∷ row) (suc k) h = trimmed-from top row k (omega arith)
 
+pub weight-trimmed : (top : ℕ) (row : List ℕ) (l : ℕ) → l ≤ top → weight (trimmed top row) l ≡ weight row l
+weight-trimmed top row zero h = refl
+weight-trimmed top row (suc l) h = trimmed-below top row l (omega arith)
+
 pub length-trimmed : (top : ℕ) (row : List ℕ) → length (trimmed top row) ≡ length row
 length-trimmed top [] = refl
 length-trimmed zero (w ∷ row) = ap suc (length-trimmed zero row)
 length-trimmed (suc top) (w ∷ row) = ap suc (length-trimmed top row)
+
+-- what holds of a new row in its place, and of what another place had, holds of what that place has once the row is written
+pub set-row : (P : ℕ → List ℕ → Type 0) (card : List (List ℕ)) (i : ℕ) (row : List ℕ) (j : ℕ) → P i row → P j (getD card j []) → P j (getD (set card i row) j [])
+set-row P [] i row j new old = old
+set-row P (x ∷ card) zero row zero new old = new
+set-row P (x ∷ card) zero row (suc j) new old = old
+set-row P (x ∷ card) (suc i) row zero new old = old
+set-row P (x ∷ card) (suc i) row (suc j) new old = set-row (λ k. P (suc k)) card i row j new old
