@@ -8,6 +8,10 @@ use Rattle.std.proofs.shelf.Ways.{tells}
 use Rattle.algebras.specs.Model.{Model}
 use Rattle.totals.specs.Choices.{alternating}
 
+-- the parity of the next number
+pub turns : (k : ℕ) → eqb (suc k % 2) 0 ≡ not (eqb (k % 2) 0)
+turns k = grind (arith, tells)
+
 module _ (m : Model) where
   pub zero-plus : (x : m .Carrier) → m .plus (m .zero) x ≡ x
   zero-plus x = m .plus-comm (m .zero) x ∙ m .plus-zero x
@@ -53,9 +57,6 @@ module _ (m : Model) where
   signed-not false x y z =
       minus-from x (m .minus y z) (m .plus (m .minus x y) z)
       (m .plus-assoc (m .minus x y) z (m .minus y z) ∙ ap (m .plus (m .minus x y)) (m .plus-comm z (m .minus y z) ∙ m .minus-plus y z) ∙ m .minus-plus x y)
-
-  turns : (k : ℕ) → eqb (suc k % 2) 0 ≡ not (eqb (k % 2) 0)
-  turns k = grind (arith, tells)
 
   pub alternating-same : (f h : ℕ → m .Carrier) (r : ℕ) → ((k : ℕ) → k < r → f k ≡ h k) → alternating m f r ≡ alternating m h r
   alternating-same f h zero same = refl

@@ -1,7 +1,7 @@
 -- Sums over choices: those with the first need and those without it. Assumes nothing.
-use mathlib.Core.Path.{_≡_, refl, sym, ap, _∙_, fun-ext}
+use mathlib.Core.Path.{_≡_, sym, ap, _∙_, fun-ext}
 use mathlib.Core.List.{List, [], _∷_, _++_, map, map-map, map-append}
-use Prim.Native.Nat.{ℕ, zero, suc, max}
+use Prim.Native.Nat.{ℕ, suc}
 use native.Mathlib.Nat.{zero-max}
 use native.Mathlib.Omega.{arith}
 use Rattle.needs.specs.Levels.{Need, join}
@@ -22,25 +22,25 @@ join-nothing d = fun-ext (λ i. omega arith)
 pub join-assoc : (d e f : Need) → join d (join e f) ≡ join (join d e) f
 join-assoc d e f = fun-ext (λ i. omega arith)
 
-module _ (m : Model) (s : Setting) where
-  pub added-append : (xs ys : List (m .Carrier)) → added m s (xs ++ ys) ≡ m .plus (added m s xs) (added m s ys)
-  added-append [] ys = sym (zero-plus m (added m s ys))
-  added-append (x ∷ xs) ys = ap (m .plus x) (added-append xs ys) ∙ sym (m .plus-assoc x (added m s xs) (added m s ys))
+pub added-append : (m : Model) (xs ys : List (m .Carrier)) → added m (xs ++ ys) ≡ m .plus (added m xs) (added m ys)
+added-append m [] ys = sym (zero-plus m (added m ys))
+added-append m (x ∷ xs) ys = ap (m .plus x) (added-append m xs ys) ∙ sym (m .plus-assoc x (added m xs) (added m ys))
 
+module _ (m : Model) (s : Setting) where
   pub sum-more : (j x : Need) (xs : List Need) (k : ℕ) → sum-from m s j (suc k) (x ∷ xs) ≡ m .plus (sum-from m s (join j x) k xs) (sum-from m s j (suc k) xs)
   sum-more j x xs k =
       let w : List Need → m .Carrier = λ c. weight m s (join j (joined c)) in
       let taken : map w (map (λ c. x ∷ c) (choices k xs)) ≡ map (λ c. weight m s (join (join j x) (joined c))) (choices k xs)
       = map-map w (λ c. x ∷ c) (choices k xs) ∙ ap (λ (f : List Need → m .Carrier). map f (choices k xs)) (fun-ext (λ c. ap (weight m s) (join-assoc j x (joined c)))) in
-      ap (added m s) (map-append w (map (λ c. x ∷ c) (choices k xs)) (choices (suc k) xs) ∙ ap (λ ys. ys ++ map w (choices (suc k) xs)) taken)
-      ∙ added-append (map (λ c. weight m s (join (join j x) (joined c))) (choices k xs)) (map w (choices (suc k) xs))
+      ap (added m) (map-append w (map (λ c. x ∷ c) (choices k xs)) (choices (suc k) xs) ∙ ap (λ ys. ys ++ map w (choices (suc k) xs)) taken)
+      ∙ added-append m (map (λ c. weight m s (join (join j x) (joined c))) (choices k xs)) (map w (choices (suc k) xs))
 
   -- the one choice of no need
   pub sum-zero : (j : Need) (xs : List Need) → sum-from m s j 0 xs ≡ weight m s j
   sum-zero j xs = m .plus-zero (weight m s (join j nothing)) ∙ ap (weight m s) (join-nothing j)
 
   pub sum-from-nothing : (k : ℕ) (ds : List Need) → sum-from m s nothing k ds ≡ sum m s k ds
-  sum-from-nothing k ds = ap (λ (f : List Need → m .Carrier). added m s (map f (choices k ds))) (fun-ext (λ c. ap (weight m s) (nothing-join (joined c))))
+  sum-from-nothing k ds = ap (λ (f : List Need → m .Carrier). added m (map f (choices k ds))) (fun-ext (λ c. ap (weight m s) (nothing-join (joined c))))
 
   pub total-none : (j : Need) (r : ℕ) → total-from m s j r [] ≡ m .zero
   total-none j r = alternating-zero m r

@@ -37,6 +37,10 @@ abbrev pub alternating : (m : Model) → (ℕ → m .Carrier) → (terms : ℕ) 
 alternating m f zero = m .zero
 alternating m f (suc k) = cond (eqb (k % 2) 0) (m .plus (alternating m f k) (f k)) (m .minus (alternating m f k) (f k))
 
+abbrev pub added : (m : Model) → List (m .Carrier) → m .Carrier
+added m [] = m .zero
+added m (x ∷ xs) = m .plus x (added m xs)
+
 module _ (m : Model) (s : Setting) where
   -- through the steps of components i, i + 1 and on, as many as are left
   abbrev pub walked : (left i : ℕ) → Need → m .Carrier → m .Carrier
@@ -46,12 +50,8 @@ module _ (m : Model) (s : Setting) where
   abbrev pub weight : Need → m .Carrier
   weight d = walked (s .components) 0 d (m .start (s .components))
 
-  abbrev pub added : List (m .Carrier) → m .Carrier
-  added [] = m .zero
-  added (x ∷ xs) = m .plus x (added xs)
-
   abbrev pub sum : (size : ℕ) → List Need → m .Carrier
-  sum size ds = added (map (λ c. weight (joined c)) (choices size ds))
+  sum size ds = added m (map (λ c. weight (joined c)) (choices size ds))
 
   abbrev pub total : (depth : ℕ) → List Need → m .Carrier
   total depth ds = alternating m (λ k. sum (suc k) ds) depth

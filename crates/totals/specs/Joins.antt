@@ -14,7 +14,7 @@ begun levels None = λ i. 0
 begun levels (Some d) = levels d
 
 abbrev pub sum-from : (m : Model) → Setting → Need → (size : ℕ) → List Need → m .Carrier
-sum-from m s j size ds = added m s (map (λ c. weight m s (join j (joined c))) (choices size ds))
+sum-from m s j size ds = added m (map (λ c. weight m s (join j (joined c))) (choices size ds))
 
 abbrev pub total-from : (m : Model) → Setting → Need → (depth : ℕ) → List Need → m .Carrier
 total-from m s j depth ds = alternating m (λ k. sum-from m s j (suc k) ds) depth
