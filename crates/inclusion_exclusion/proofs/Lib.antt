@@ -1,0 +1,11 @@
+pub mod Laws
+pub mod Telescoping
+pub mod States
+pub mod Counts
+pub mod Totals
+pub mod Residues
+pub mod Naturals
+pub mod WholeNumbers
+pub mod Bounds
+pub mod Bonferroni
+pub mod Monotonicity
