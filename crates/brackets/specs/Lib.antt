@@ -1,3 +1,3 @@
-pub mod Bonferroni
+pub mod Brackets
 pub mod Readings
 pub mod Words

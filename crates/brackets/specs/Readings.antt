@@ -10,7 +10,8 @@ use lib.ListN.{length, getD}
 use Rattle.algebras.specs.Residues.{signed}
 use Rattle.algebras.specs.Meanings.{meaning}
 use Rattle.algebras.specs.declared.residue.Residue.{Residue}
-use Rattle.brackets.specs.Bonferroni.{both, best-low, best-high}
+use Rattle.inclusion_exclusion.specs.Bonferroni.{best-low, best-high}
+use Rattle.brackets.specs.Brackets.{both}
 use Rattle.brackets.specs.declared.ends.Ends.{Ends}
 
 abbrev pub ReadsAs : List Residue → (total : ℕ → ℤ) → Type 0

@@ -5,7 +5,7 @@ ghost use mathlib.Core.List.{map};
 ghost use lib.IntN.{ℤ};
 ghost use lib.ListN.{length};
 ghost use Rattle.totals.specs.Choices.{setting};
-ghost use Rattle.brackets.specs.Bonferroni.{ends as endsOf, totals as totalsOf, pair as pairOf, verdict as verdictOf};
+ghost use Rattle.brackets.specs.Brackets.{ends as endsOf, pair as pairOf, verdict as verdictOf};
 ghost use Rattle.brackets.specs.Readings.{ReadsAs, best-so-far};
 use crate::depth::Depth;
 use crate::ends::Ends;
@@ -75,7 +75,7 @@ fn best_ends(totals: &[Residue]) -> Ends
 
 // The ends of the bracket at a depth: at full depth the total itself, else the best bounds so far.
 pub fn bracket_ends<K: Kind>(needs: &[K], components: usize, rows: &Rows, depth: Depth) -> Ends
-    ensures answer { λ r. ⌜ r ≡ endsOf (totalsOf (setting components (now (rows .entry)) (K·Kind .top)) (map (K·Kind .levels) (now (needs .entry)))) (length (now (needs .entry))) (depth .of) ⌝ }
+    ensures answer { λ r. ⌜ r ≡ endsOf (setting components (now (rows .entry)) (K·Kind .top)) (map (K·Kind .levels) (now (needs .entry))) (depth .of) ⌝ }
 {
     let depth = depth.get();
     if depth >= needs.len() {

@@ -13,7 +13,7 @@ use Rattle.std.specs.shelf.Lists.{All}
 use Rattle.needs.specs.Levels.{Need, digit}
 use Rattle.algebras.specs.Residues.{signed}
 use Rattle.algebras.specs.Models.{fixed-model, polynomial-model, count-model}
-use Rattle.brackets.specs.Bonferroni.{pair, verdict}
+use Rattle.brackets.specs.Brackets.{pair, verdict}
 use Rattle.brackets.specs.declared.verdict.Verdict.{Verdict}
 use Rattle.brackets.specs.declared.verdict.Verdict.the-variants.{Sound, Attention, Undecided}
 use Rattle.sheets.specs.Standings.{Standing, opened}

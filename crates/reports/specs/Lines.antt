@@ -14,7 +14,7 @@ use Rattle.std.specs.Written.{decimal, signed}
 use Rattle.needs.specs.Levels.{Need}
 use Rattle.algebras.specs.Residues as residues
 use Rattle.algebras.specs.Models.{polynomial-model, count-model}
-use Rattle.brackets.specs.Bonferroni.{pair, verdict}
+use Rattle.brackets.specs.Brackets.{pair, verdict}
 use Rattle.brackets.specs.Words.{word}
 use Rattle.brackets.specs.declared.ends.Ends.{Ends}
 use Rattle.sheets.specs.Standings.{Standing}

@@ -4,11 +4,10 @@
 -- ends       the exact ends of the bracket at a depth
 use Prim.Native.Nat.{ℕ}
 use mathlib.Core.List.{map}
-use lib.ListN.{length}
 use Rattle.needs.specs.Levels.{Need}
 use Rattle.algebras.specs.Model.{Model}
 use Rattle.totals.specs.Choices.{Setting, setting, total}
-use Rattle.brackets.specs.Bonferroni.{totals, ends}
+use Rattle.brackets.specs.Brackets.{ends}
 use Rattle.brackets.specs.declared.ends.Ends.{Ends}
 use Rattle.sheets.specs.Standings.{Standing}
 
@@ -20,4 +19,4 @@ module _ {K : Type 0} (levels : K → Need) (top : ℕ) (s : Standing K) where
   road-total m depth = total m setting-of depth (map levels (s .needs))
 
   abbrev pub road-ends : (depth : ℕ) → Ends
-  road-ends depth = ends (totals setting-of (map levels (s .needs))) (length (s .needs)) depth
+  road-ends depth = ends setting-of (map levels (s .needs)) depth

@@ -4,7 +4,7 @@ ghost use Prim.Native.Nat.{_≤_};
 ghost use lib.ListN.{length};
 ghost use Rattle.std.specs.Results.{Cases};
 ghost use Rattle.sheets.specs.Causes.Call.{total as totalCall, bracket as bracketCall, judge as judgeCall};
-ghost use Rattle.brackets.specs.Bonferroni.{pair as pairOf, verdict as verdictOf};
+ghost use Rattle.brackets.specs.Brackets.{pair as pairOf, verdict as verdictOf};
 ghost use Rattle.sheets.specs.Answers.{road-total, road-ends};
 ghost use Rattle.sheets.specs.Sheets.{bay-standing, bay-storage, road-standing, road-storage, road-causes, Outcome};
 use crate::bay::BaySheet;
