@@ -1,3 +1,4 @@
 pub mod Held
 pub mod Outcomes
 pub mod Settled
+pub mod Reliable

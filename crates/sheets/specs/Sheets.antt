@@ -1,9 +1,11 @@
 -- A sheet's standing and storage, read from the code's own types, and what a call answers by the table of causes.
 --
--- storage    what the lent places hold, all of them
--- outcome    accepted where no cause holds, else refused with the number of the first that does
+-- storage        what the lent places hold, all of them
+-- outcome        accepted where no cause holds, else refused with the number of the first that does
+-- reliability    of what the sheet holds: how likely a warning is to arrive
 use Prim.Native.Nat.{ℕ}
 use mathlib.Core.List.{List}
+use lib.IntN.{ℤ}
 use lib.ListN.{take}
 use denote.Ref.{now}
 use Rattle.std.specs.declared.result.Result.{Result}
@@ -12,6 +14,7 @@ use Rattle.needs.specs.declared.Kind.{Ghosts}
 use Rattle.sheets.specs.Standings.{Standing, capacity}
 use Rattle.sheets.specs.Causes.{Call, causes, Accepted, First}
 use Rattle.sheets.specs.Refusals.{number}
+use Rattle.sheets.specs.Answers.{reliability-of}
 use Rattle.sheets.specs.declared.refusal.Refusal.{Refusal}
 use Rattle.sheets.specs.declared.clutter.Clutter.{Clutter}
 use Rattle.sheets.specs.declared.bay.BaySheet.{BaySheet}
@@ -43,3 +46,9 @@ module _ {K : Type 0} where
 
   abbrev pub road-causes : Ghosts K → RoadSheet K → Call K → List (ℕ × Type 0)
   road-causes kind s = causes (kind .levels) (kind .top) (capacity (road-storage s)) (road-standing s)
+
+  abbrev pub bay-reliability : Ghosts K → BaySheet K → ℤ
+  bay-reliability kind s = reliability-of (kind .levels) (kind .top) (bay-standing s)
+
+  abbrev pub road-reliability : Ghosts K → RoadSheet K → ℤ
+  road-reliability kind s = reliability-of (kind .levels) (kind .top) (road-standing s)

@@ -1,17 +1,18 @@
 // The calls that a sheet takes in the bay.
 ghost use mathlib.Core.Path.{_≡_};
-ghost use Prim.Native.Nat.{ℕ};
 ghost use mathlib.Core.Bool.{cond};
-ghost use mathlib.Core.List.{map};
-ghost use lib.ListN.{length, set};
+ghost use mathlib.Core.List.{[], map};
+ghost use lib.ListN.{length, getD, set};
+ghost use lib.Signed.{_≤ℤ_};
 ghost use Rattle.std.specs.Orderings.{Decides};
 ghost use Rattle.std.specs.Results.{Cases, isOk};
+ghost use Rattle.inclusion_exclusion.specs.Changes.{Raises, Lowers};
 ghost use Rattle.sheets.specs.Standings.{opened, sized, fitted, weighted};
 ghost use Rattle.sheets.specs.Causes.{Asks-from, Told-place};
 ghost use Rattle.sheets.specs.Causes.Call.{size as sizeCall, set as setCall, fit as fitCall};
 ghost use Rattle.sheets.specs.Refusals.{place as placeOf};
 ghost use Rattle.sheets.specs.Settled.{Settled};
-ghost use Rattle.sheets.specs.Sheets.{bay-standing, bay-storage, bay-causes, road-standing, road-storage, Outcome};
+ghost use Rattle.sheets.specs.Sheets.{bay-standing, bay-storage, bay-causes, bay-reliability, road-standing, road-storage, Outcome};
 use crate::bay::BaySheet;
 use crate::clutter::Clutter;
 use crate::refusal::Refusal;
@@ -84,6 +85,8 @@ impl<'a, K: Kind> BaySheet<'a, K> {
         ensures standing { λ r. ⌜ bay-standing (now (self .exit)) ≡ cond (isOk r) (weighted (K·Kind .top) component row (bay-standing (now (self .entry)))) (bay-standing (now (self .entry))) ⌝ }
         ensures storage { λ r. ⌜ bay-storage (now (self .exit)) ≡ bay-storage (now (self .entry)) ⌝ }
         ensures settled { λ r. ⌜ (Settled (K·Kind .levels) (K·Kind .top) (bay-standing (now (self .entry))) → Settled (K·Kind .levels) (K·Kind .top) (bay-standing (now (self .exit)))) ⌝ }
+        ensures raising { λ _. ⌜ (Raises (K·Kind .top) (getD (bay-standing (now (self .entry)) .card) component []) row → bay-reliability K·Kind (now (self .entry)) ≤ℤ bay-reliability K·Kind (now (self .exit))) ⌝ }
+        ensures lowering { λ _. ⌜ (Lowers (K·Kind .top) (getD (bay-standing (now (self .entry)) .card) component []) row → bay-reliability K·Kind (now (self .exit)) ≤ℤ bay-reliability K·Kind (now (self .entry))) ⌝ }
     {
         if component >= self.components {
             return Err(Refusal::UnknownComponent);
@@ -103,6 +106,7 @@ impl<'a, K: Kind> BaySheet<'a, K> {
         ensures standing { λ r. ⌜ bay-standing (now (self .exit)) ≡ cond (isOk r) (fitted need (bay-standing (now (self .entry)))) (bay-standing (now (self .entry))) ⌝ }
         ensures storage { λ r. ⌜ bay-storage (now (self .exit)) ≡ cond (isOk r) (set (bay-storage (now (self .entry))) (length (bay-standing (now (self .entry)) .needs)) need) (bay-storage (now (self .entry))) ⌝ }
         ensures settled { λ r. ⌜ (Settled (K·Kind .levels) (K·Kind .top) (bay-standing (now (self .entry))) → Settled (K·Kind .levels) (K·Kind .top) (bay-standing (now (self .exit)))) ⌝ }
+        ensures never_lowers { λ _. ⌜ bay-reliability K·Kind (now (self .entry)) ≤ℤ bay-reliability K·Kind (now (self .exit)) ⌝ }
     {
         if asks_from(need, self.components) {
             return Err(Refusal::UnknownComponent);

@@ -12,6 +12,7 @@ use Rattle.sheets.specs.Standings.{capacity, fitted}
 use Rattle.sheets.specs.Refusals.{place}
 use Rattle.sheets.specs.Sheets.{bay-standing}
 use Rattle.sheets.proofs.Outcomes.{passes, standing-fitted}
+use Rattle.sheets.proofs.Reliable.{proper, fit-raises}
 use Rattle.sheets.proofs.Settled.{fitted-settled, kept-settled}
 use Rattle.sheets.proofs.bay.BaySheet.fit.Needs as need
 
@@ -36,4 +37,5 @@ returns g c =
       standing = after;
       storage = c .fit .ensures .storage ∙ ap (λ n. cond (isOk r) (set places n d) places) (sym long);
       settled = kept-settled levels top r (causes levels top (capacity places) before (fit d)) before (fitted d before) _ outcome after (fitted-settled levels top (capacity places) before d);
+      never-lowers = fit-raises levels top before _ d (isOk r) (proper levels top before (g .K·Kind·met .«top_most») (self .most) (self .falling)) after;
     }
