@@ -17,7 +17,7 @@ use Rattle.brackets.specs.Brackets.{pair, verdict}
 use Rattle.brackets.specs.declared.verdict.Verdict.{Verdict}
 use Rattle.brackets.specs.declared.verdict.Verdict.the-variants.{Sound, Attention, Undecided}
 use Rattle.sheets.specs.Standings.{Standing, opened}
-use Rattle.sheets.specs.Answers.{road-total, road-ends}
+use Rattle.sheets.specs.Answers.{road-total, road-ends, reliability-of}
 
 pub record Example : Type 0 where
   pub levels : ℕ → Need
@@ -51,6 +51,8 @@ pub data Figure : Type 0 where
   count : Example → (depth : ℕ) → ℕ → Figure
   bracketed : Example → (depth : ℕ) → ℕ × ℕ → Figure
   judged : Example → (depth threshold : ℕ) → Verdict → Figure
+  -- the exact reliability, from the states
+  reliable : Example → ℤ → Figure
 
 -- the first coefficients, as many as there are powers from k on
 abbrev pub from-power : (ℕ → ℤ) → ℕ → (count : ℕ) → List ℤ
@@ -64,6 +66,7 @@ Holds (polynomial x r zs) =
 Holds (count x r n) = road-total (x .levels) (x .top) (x .standing) count-model r .value ≡ n
 Holds (bracketed x r p) = pair (road-ends (x .levels) (x .top) (x .standing) r) ≡ p
 Holds (judged x r t v) = verdict (road-ends (x .levels) (x .top) (x .standing) r) t ≡ v
+Holds (reliable x z) = reliability-of (x .levels) (x .top) (x .standing) ≡ z
 
 abbrev pub powers : List ℤ → (more : ℕ) → List ℤ
 powers zs more = zs ++ replicate more (pos 0)
@@ -87,6 +90,9 @@ figures =
     ∷ bracketed sheet-N 1 (0, 0)
     ∷ judged sheet-N 1 0 Sound
     ∷ judged sheet-N 1 1 Attention
+    ∷ reliable sheet-A (pos (9 * 2 ^ 44))
+    ∷ reliable sheet-B (pos (3 * 2 ^ 46))
+    ∷ reliable sheet-N (pos 0)
     ∷ []
 
 abbrev pub Figures-hold : Type 0

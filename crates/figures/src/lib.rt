@@ -8,7 +8,7 @@ pub fn figures_hold() -> usize
     ensures theorem { λ _. ⌜ Figures-hold ⌝ }
     ensures answer { λ r. ⌜ r ≡ length figures ⌝ }
 {
-    17
+    20
 }
 
 #[cfg(test)]

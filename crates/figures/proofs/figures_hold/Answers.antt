@@ -4,6 +4,6 @@ use Rattle.figures.proofs.figures_hold.Needs as need
 
 pub returns : need.returns
 returns c = record {
-  theorem = (refl, (refl, (refl, (refl, (refl, (refl, (refl, (refl, (refl, (refl, (refl, (refl, (refl, (refl, (refl, (refl, (refl, tt)))))))))))))))));
+  theorem = (refl, (refl, (refl, (refl, (refl, (refl, (refl, (refl, (refl, (refl, (refl, (refl, (refl, (refl, (refl, (refl, (refl, (refl, (refl, (refl, tt))))))))))))))))))));
   answer = refl;
 }
