@@ -1,4 +1,6 @@
 // Algebras: what a total is worked out in.
+#![tactic(auto)]
+
 ghost use Rattle.std.specs.Prelude.{◌≡◌};
 ghost use Rattle.weights.specs.Chances.{chance};
 ghost use Rattle.algebras.specs.Model.{Model};

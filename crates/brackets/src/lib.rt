@@ -1,4 +1,6 @@
 // Brackets around the reliability of a sheet, and verdicts on them.
+#![tactic(auto)]
+
 mod bracket;
 mod depth;
 mod ends;

@@ -1,4 +1,6 @@
 // Lists of calls, sent to one sheet one after another, and the law that every list keeps.
+#![tactic(auto)]
+
 ghost use Rattle.calls.specs.Law.{OneBook};
 
 use algebras::Algebra;

@@ -1,4 +1,6 @@
 // Needs in the places of a slice: what they ask for, how a new one compares with them, and one taken out.
+#![tactic(auto)]
+
 ghost use Rattle.std.specs.Prelude.{◌≡◌, ℕ, map, Decides, MatchOption};
 ghost use Rattle.clutters.specs.Clutters.{AsksFrom, Comparable, ComparableAt, SameAt, Lowest, closed_up};
 

@@ -1,4 +1,6 @@
 // Worked figures: one theorem over their list, and calls on the worked sheets as tests.
+#![tactic(auto)]
+
 ghost use Rattle.std.specs.Prelude.{◌≡◌, length};
 ghost use Rattle.figures.specs.Figures.{figures, FiguresHold};
 

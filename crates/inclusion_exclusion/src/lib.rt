@@ -1,4 +1,6 @@
 // What totals, brackets, verdicts and changes of a sheet mean: theorems over all settings and needs.
+#![tactic(auto)]
+
 ghost use Rattle.inclusion_exclusion.specs.States.{TotalsCountStates};
 ghost use Rattle.inclusion_exclusion.specs.Reliability.{TotalsBoundReliability};
 ghost use Rattle.inclusion_exclusion.specs.Bonferroni.{BracketsHoldReliability, VerdictsTellReliability};

@@ -1,4 +1,6 @@
 // Needs: the least level that a route asks of each component, coded in one number.
+#![tactic(auto)]
+
 ghost use Rattle.std.specs.Prelude.{◌≡◌, ℕ, ◌≤◌, Decides};
 ghost use Rattle.needs.specs.Levels.{join as joined, Covers, Same, digit};
 ghost use Rattle.std.proofs.Common.{rules};

@@ -1,4 +1,6 @@
 // Readings: the chances of one component as telemetry sends them, and the weights that they become.
+#![tactic(auto)]
+
 ghost use Rattle.std.specs.Prelude.{◌≡◌, ℕ, ◌≤◌, map, IfSome, MatchOption};
 ghost use Rattle.weights.specs.Chances.{trimmed};
 ghost use Rattle.readings.specs.Readings.{IsChance, AtMost, sixty_fourths, AreChances};

@@ -1,4 +1,6 @@
 // Reads a script of calls from standard input, sends them to a sheet, and prints each call with its answer.
+#![tactic(auto)]
+
 mod answers;
 mod script;
 mod transcript;

@@ -1,4 +1,6 @@
 // Reads a sheet file from standard input, and prints the report on it.
+#![tactic(auto)]
+
 use reports::{LONGEST, report};
 use std::io::Read;
 

@@ -1,4 +1,6 @@
 // The report on a sheet file.
+#![tactic(auto)]
+
 mod lines;
 mod whole;
 

@@ -1,4 +1,6 @@
 // Sheet files: how a sheet is read from bytes.
+#![tactic(auto)]
+
 mod fault;
 mod filed;
 mod reader;

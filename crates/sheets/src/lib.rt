@@ -1,4 +1,6 @@
 // Sheets: the needs and chances of one trailer, changed in the bay and asked on the road.
+#![tactic(auto)]
+
 mod bay;
 mod clutter;
 mod refusal;

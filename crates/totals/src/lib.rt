@@ -1,4 +1,6 @@
 // Totals by inclusion-exclusion, for every kind of need and every algebra.
+#![tactic(auto)]
+
 ghost use Rattle.std.specs.Prelude.{◌≡◌, ℕ, map};
 ghost use Rattle.needs.specs.Levels.{join};
 ghost use Rattle.totals.specs.Choices.{weight as weight_from, total as total_of, setting};

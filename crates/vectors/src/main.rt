@@ -1,5 +1,7 @@
 // Prints the report on each of many sheet files. A line of standard input has a name and the file's bytes, two hexadecimal
 // digits each; what is printed is compared with what a second hand's program prints.
+#![tactic(auto)]
+
 ghost use Rattle.std.specs.Prelude.{◌≡◌, ◌≤◌};
 
 use anyhow::anyhow;

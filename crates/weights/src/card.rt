@@ -50,7 +50,7 @@ pub fn write_row(rows: &mut Rows, component: usize, row: Row)
     ensures after { rows.new ≡ slice_set rows.old component row }
 {
     if component < COMPONENTS {
-        let lent = &mut rows[component];
-        *lent = row;
+        let held = &mut rows[component];
+        *held = row;
     }
 }

@@ -1,4 +1,6 @@
 // The weight card: for each component, the chance in 64ths that it reaches a level.
+#![tactic(auto)]
+
 ghost use Rattle.std.specs.Prelude.{◌≡◌};
 ghost use Rattle.weights.specs.Chances.{chance as chance_of};
 

@@ -9,11 +9,11 @@ use Rattle.totals.specs.Joins.{begun, total_from}
 use Rattle.totals.proofs.Sums.{total_none, total_more}
 use Rattle.totals.proofs.+total_from.Goals as goal
 
-pub returns-in-default : goal.returns-in-default
-returns-in-default g t c =
+pub returns-in_default : goal.returns-in_default
+returns-in_default g t c =
     let m = g.A.Algebra.model in
     let s = setting c.args.components c.args.rows.now g.K.Kind.top in
-    let j = begun g.K.Kind.levels c.args.so-far in
+    let j = begun g.K.Kind.levels c.args.so_far in
     let none : length c.args.needs.now ≡ 0 = search rules in
     let empty = ap (map g.K.Kind.levels) (nil_from_length c.args.needs.now none) in
     record { answer = c.zero.ensures.answer ∙ sym (ap (total_from m s j c.args.depth) empty ∙ total_none m s j c.args.depth) }
@@ -23,19 +23,19 @@ returns g t c =
     let m = g.A.Algebra.model in
     let s = setting c.args.components c.args.rows.now g.K.Kind.top in
     let levels = g.K.Kind.levels in
-    let j = begun levels c.args.so-far in
+    let j = begun levels c.args.so_far in
     let x = levels c.first-item.result in
     let ns = c.args.needs.now in
     let xs = map levels (between 1 (length ns) ns) in
     let split = ap (map levels) (first_rest ns c.first-item.result (search rules) ∙ ap (λ d. d ∷ between 1 (length ns) ns) (sym c.first-item.is)) in
-    let join_is : levels c.joined-to-joined.result ≡ join j x = fun_ext c.joined-to-joined.ensures.answer in
+    let join_is : levels c.joined_to-joined.result ≡ join j x = fun_ext c.joined_to-joined.ensures.answer in
     let r = c.args.depth - 1 in
     let means = g.A.Algebra.means in
     let own : means c.weight.result ≡ weight m s (join j x) = c.weight.ensures.answer ∙ ap (weight m s) join_is in
-    let others : means c.total-from-with-others.result ≡ total_from m s (join j x) r xs = c.total-from-with-others.ensures.answer ∙ ap (λ d. total_from m s d r xs) join_is in
+    let others : means c.total_from-with_others.result ≡ total_from m s (join j x) r xs = c.total_from-with_others.ensures.answer ∙ ap (λ d. total_from m s d r xs) join_is in
     let without : means c.total_from.result ≡ total_from m s j c.args.depth xs = c.total_from.ensures.answer in
-    let with-x : means c.sub-with-first.result ≡ m.minus (means c.weight.result) (means c.total-from-with-others.result) = c.sub-with-first.ensures.answer in
-    let sum : means c.add.result ≡ m.plus (means c.total_from.result) (means c.sub-with-first.result) = c.add.ensures.answer in
+    let with-x : means c.sub-with_first.result ≡ m.minus (means c.weight.result) (means c.total_from-with_others.result) = c.sub-with_first.ensures.answer in
+    let sum : means c.add.result ≡ m.plus (means c.total_from.result) (means c.sub-with_first.result) = c.add.ensures.answer in
     let told : means c.add.result ≡ m.plus (total_from m s j c.args.depth xs) (m.minus (weight m s (join j x)) (total_from m s (join j x) r xs)) = cc in
     let deep : suc r ≡ c.args.depth = search rules in
     record {

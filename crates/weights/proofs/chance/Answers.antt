@@ -3,9 +3,9 @@ use Rattle.weights.specs.Chances.{weight}
 use Rattle.weights.proofs.Rows.{weight_past, chance_past}
 use Rattle.weights.proofs.chance.Goals as goal
 
-pub returns-in-default : goal.returns-in-default
-returns-in-default c =
-    record { answer = sym (chance_past c.args.rows.now c.args.component c.args.level c.if-level-eq0.false c.in-default.ensures.lookup.3) }
+pub returns-in_default : goal.returns-in_default
+returns-in_default c =
+    record { answer = sym (chance_past c.args.rows.now c.args.component c.args.level c.if-level-eq0.false c.in_default.ensures.lookup.3) }
 
 pub returns-in-None : goal.returns-in-None
 returns-in-None c =

@@ -10,18 +10,18 @@ set_back : {X : Type 0} (rows : List X) (i : ℕ) (row old d : X) (written back 
 set_back rows i row old d written back kept wrote wrote-back =
     wrote-back ∙ ap (λ xs. set xs i old) wrote ∙ set-set rows i row old ∙ ap (set rows i) kept ∙ set-get_or rows i d
 
-pub returns-in-err-depth : goal.returns-in-err-depth
-returns-in-err-depth g c =
-    record { answer = simp c.from-residual.ensures c.in-err-depth.ensures.answer; after = set_back c.args.rows.now c.args.component c.args.row c.row-at-old.result (replicate 3 0) c.write-row.new.rows _ c.row-at-old.ensures.answer c.write-row.ensures.after c.drop-trial.ensures.after }
+pub returns-in_err-depth : goal.returns-in_err-depth
+returns-in_err-depth g c =
+    record { answer = simp c.from_residual.ensures c.in_err-depth.ensures.answer; after = set_back c.args.rows.now c.args.component c.args.row c.row_at-old.result (replicate 3 0) c.write_row.new.rows _ c.row_at-old.ensures.answer c.write_row.ensures.after c.drop-trial.ensures.after }
 
 pub returns : goal.returns
 returns g c =
     let ends_by : List (List ℕ) → ℕ → Ends = λ rows depth. ends (setting c.args.components rows g.K.Kind.top) (map g.K.Kind.levels c.args.needs.now) depth in
     record {
       answer = (
-        c.bracket-ends.ensures.answer ∙ ap (λ rows. ends_by rows c.in-ok-depth.depth.of) c.write-row.ensures.after ∙ ap (ends_by _) c.in-ok-depth.ensures.answer.0,
-        c.in-ok-depth.ensures.answer.1,
-        c.in-ok-depth.ensures.answer.2,
+        c.bracket_ends.ensures.answer ∙ ap (λ rows. ends_by rows c.in_ok-depth.depth.of) c.write_row.ensures.after ∙ ap (ends_by _) c.in_ok-depth.ensures.answer.0,
+        c.in_ok-depth.ensures.answer.1,
+        c.in_ok-depth.ensures.answer.2,
       );
-      after = set_back c.args.rows.now c.args.component c.args.row c.row-at-old.result (replicate 3 0) c.write-row.new.rows _ c.row-at-old.ensures.answer c.write-row.ensures.after c.drop-trial-2.ensures.after;
+      after = set_back c.args.rows.now c.args.component c.args.row c.row_at-old.result (replicate 3 0) c.write_row.new.rows _ c.row_at-old.ensures.answer c.write_row.ensures.after c.drop-trial-2.ensures.after;
     }

@@ -22,8 +22,8 @@ pub returns : goal.returns
 returns g c =
     record {
       law =
-          subst (λ places. Law g.K.Kind.levels g.K.Kind.top g.A.Algebra.model g.A.Algebra.means places c.args.calls.now c.args.answers.now c.loop-i.answers (road_standing c.on-road.result) (road_storage c.on-road.result))
+          subst (λ places. Law g.K.Kind.levels g.K.Kind.top g.A.Algebra.model g.A.Algebra.means places c.args.calls.now c.args.answers.now c.loop-i.answers (road_standing c.on_road.result) (road_storage c.on_road.result))
           c.open.ensures.storage
           (law g.K.Kind.levels g.K.Kind.top g.A.Algebra.model g.A.Algebra.means (bay_storage c.open.result) c.args.calls.now c.args.answers.now
-          g.met.K.Kind.top_most g.met.K.Kind.levels_most c.loop-i.i (page_of c.loop-i.sheet) c.loop-i.answers _ _ (omega arith) c.loop-i.invariant c.on-road.ensures.standing c.on-road.ensures.storage);
+          g.met.K.Kind.top_most g.met.K.Kind.levels_most c.loop-i.i (page_of c.loop-i.sheet) c.loop-i.answers _ _ (omega arith) c.loop-i.invariant c.on_road.ensures.standing c.on_road.ensures.storage);
     }

@@ -48,10 +48,10 @@ returns-in-Try g c =
     let i = c.in-Try.component in
     let what = c.in-Try.supposed in
     let depth = c.in-Try.depth in
-    let r = c.try-with.result in
+    let r = c.try_with.result in
     record {
       step =
           step_told g.K.Kind.levels g.K.Kind.top g.A.Algebra.model g.A.Algebra.means r road s _ s storage _ storage c.bracketed-in-Try.result
-          (unchanged (is_ok r) c.try-with.ensures.standing) (unchanged (is_ok r) c.try-with.ensures.storage) c.args.call (Try i what depth) c.in-Try.is refl refl c.try-with.ensures.refused
-          (λ p. p ≡ pair (road_ends g.K.Kind.levels g.K.Kind.top (tried g.K.Kind.top i what s) depth)) _ answer.Bracket c.try-with.ensures.answer c.bracketed-in-Try.ensures.answer (λ p is made. made ∙ ap answer.Bracket is) refl;
+          (unchanged (is_ok r) c.try_with.ensures.standing) (unchanged (is_ok r) c.try_with.ensures.storage) c.args.call (Try i what depth) c.in-Try.is refl refl c.try_with.ensures.refused
+          (λ p. p ≡ pair (road_ends g.K.Kind.levels g.K.Kind.top (tried g.K.Kind.top i what s) depth)) _ answer.Bracket c.try_with.ensures.answer c.bracketed-in-Try.ensures.answer (λ p is made. made ∙ ap answer.Bracket is) refl;
     }

@@ -43,11 +43,11 @@ returns-in-SetByReadings g c =
     let storage = bay_storage c.args.bay.now in
     let i = c.in-SetByReadings.component in
     let readings = c.in-SetByReadings.readings in
-    let r = c.set-by-readings.result in
+    let r = c.set_by_readings.result in
     record {
       step =
           step_told g.K.Kind.levels g.K.Kind.top g.A.Algebra.model g.A.Algebra.means r bay s _ (weighted g.K.Kind.top i (map sixty_fourths readings) s) storage _ storage c.done-in-SetByReadings.result
-          c.set-by-readings.ensures.standing (unchanged (is_ok r) c.set-by-readings.ensures.storage) c.args.call (SetByReadings i readings) c.in-SetByReadings.is refl refl c.set-by-readings.ensures.refused
+          c.set_by_readings.ensures.standing (unchanged (is_ok r) c.set_by_readings.ensures.storage) c.args.call (SetByReadings i readings) c.in-SetByReadings.is refl refl c.set_by_readings.ensures.refused
           _ _ (λ _. Done) c.done-in-SetByReadings.ensures.answer c.done-in-SetByReadings.ensures.answer (λ _ _ is. is) refl;
     }
 

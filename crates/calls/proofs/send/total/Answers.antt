@@ -5,11 +5,11 @@ use Rattle.calls.proofs.send.total.Goals as goal
 pub returns-in-Err : goal.returns-in-Err
 returns-in-Err g c = record { step = total_refused g.K.Kind.levels g.K.Kind.top g.A.Algebra.model g.A.Algebra.means c.args.algebra c.args.depth (road_standing c.args.road.now) (road_storage c.args.road.now) _ c.in-Err.ensures.refused }
 
-pub returns-in-Err-total-in : goal.returns-in-Err-total-in
-returns-in-Err-total-in g c = record { step = total_refused g.K.Kind.levels g.K.Kind.top g.A.Algebra.model g.A.Algebra.means c.args.algebra c.args.depth (road_standing c.args.road.now) (road_storage c.args.road.now) _ c.in-Err-total-in.ensures.refused }
+pub returns-in-Err-total_in : goal.returns-in-Err-total_in
+returns-in-Err-total_in g c = record { step = total_refused g.K.Kind.levels g.K.Kind.top g.A.Algebra.model g.A.Algebra.means c.args.algebra c.args.depth (road_standing c.args.road.now) (road_storage c.args.road.now) _ c.in-Err-total_in.ensures.refused }
 
-pub returns-in-Err-total-in-2 : goal.returns-in-Err-total-in-2
-returns-in-Err-total-in-2 g c = record { step = total_refused g.K.Kind.levels g.K.Kind.top g.A.Algebra.model g.A.Algebra.means c.args.algebra c.args.depth (road_standing c.args.road.now) (road_storage c.args.road.now) _ c.in-Err-total-in-2.ensures.refused }
+pub returns-in-Err-total_in-2 : goal.returns-in-Err-total_in-2
+returns-in-Err-total_in-2 g c = record { step = total_refused g.K.Kind.levels g.K.Kind.top g.A.Algebra.model g.A.Algebra.means c.args.algebra c.args.depth (road_standing c.args.road.now) (road_storage c.args.road.now) _ c.in-Err-total_in-2.ensures.refused }
 
-pub returns-in-Err-total-in-3 : goal.returns-in-Err-total-in-3
-returns-in-Err-total-in-3 g c = record { step = total_refused g.K.Kind.levels g.K.Kind.top g.A.Algebra.model g.A.Algebra.means c.args.algebra c.args.depth (road_standing c.args.road.now) (road_storage c.args.road.now) _ c.in-Err-total-in-3.ensures.refused }
+pub returns-in-Err-total_in-3 : goal.returns-in-Err-total_in-3
+returns-in-Err-total_in-3 g c = record { step = total_refused g.K.Kind.levels g.K.Kind.top g.A.Algebra.model g.A.Algebra.means c.args.algebra c.args.depth (road_standing c.args.road.now) (road_storage c.args.road.now) _ c.in-Err-total_in-3.ensures.refused }

@@ -11,7 +11,7 @@ loop-power-preserved c =
     let text = string_bytes c.loop-power.text in
     let fits : SFits w64 c.signed.result = search rules in
     let same : to_z w64 (of_z w64 c.signed.result) ≡ c.signed.result = to_z-of_z w64 c.signed.result fits in
-    let pushed : string_bytes c.push-coefficient.new.text ≡ text ++ (codes " " ++ written.signed_decimal (to_z w64 (of_z w64 c.signed.result))) = c.in-ok-push-coefficient.ensures.after in
+    let pushed : string_bytes c.push_coefficient.new.text ≡ text ++ (codes " " ++ written.signed_decimal (to_z w64 (of_z w64 c.signed.result))) = c.in_ok-push_coefficient.ensures.after in
     pushed
     ∙ ap (λ z. text ++ (codes " " ++ written.signed_decimal z)) same
     ∙ ap (λ z. text ++ (codes " " ++ written.signed_decimal z)) c.signed.ensures.answer

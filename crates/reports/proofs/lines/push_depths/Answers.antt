@@ -7,5 +7,5 @@ use Rattle.reports.proofs.lines.push_depths.Goals as goal
 pub loop-shallower-preserved : goal.loop-shallower-preserved
 loop-shallower-preserved g c =
     let e = road_ends g.K.Kind.levels g.K.Kind.top (road_standing c.args.sheet.now) in
-    c.in-ok-push-depth.ensures.after
+    c.in_ok-push_depth.ensures.after
     ∙ depths_more e c.args.threshold c.loop-shallower.shallower (string_bytes c.loop-shallower.text) (string_bytes c.args.text.now) c.loop-shallower.invariant

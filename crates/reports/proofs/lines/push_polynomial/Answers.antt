@@ -9,6 +9,6 @@ pub returns : goal.returns
 returns c =
     let powers = coefficients (λ k. signed (meanings.coefficients c.args.polynomial.now k)) c.args.count in
     record {
-      after = both_added (string_bytes c.args.text.now) (codes "poly") (powers ++ newline) c.in-ok-push-word.ensures.after
-          (both_added (string_bytes c.push-word.new.text) powers newline c.in-ok-push-coefficients.ensures.after c.in-ok-push-word-2.ensures.after);
+      after = both_added (string_bytes c.args.text.now) (codes "poly") (powers ++ newline) c.in_ok-push_word.ensures.after
+          (both_added (string_bytes c.push_word.new.text) powers newline c.in_ok-push_coefficients.ensures.after c.in_ok-push_word-2.ensures.after);
     }

@@ -16,14 +16,14 @@ returns g c =
     let deep : c.max-last.result ≡ last = c.max-last.ensures ∙ ap (λ n. max n 1) c.held.ensures.answer in
     let e = road_ends levels top s in
     let text₀ = string_bytes c.args.text.now in
-    let text₁ = string_bytes c.push-sheet.new.text in
-    let text₂ = string_bytes c.push-depths.new.text in
-    let text₃ = string_bytes c.push-polynomial-total.new.text in
-    let text₄ = string_bytes c.push-count-total.new.text in
-    let head : text₁ ≡ text₀ ++ sheet_line kind c.components.result t = c.in-ok-push-sheet.ensures.after in
-    let depths : text₂ ≡ text₁ ++ depth_lines e t c.max-last.result = c.in-ok-push-depths.ensures.after in
-    let powers : text₃ ≡ text₂ ++ polynomial_line levels top s c.max-last.result = c.in-ok-push-polynomial-total.ensures.after in
-    let states : text₄ ≡ text₃ ++ count_line levels top s c.max-last.result = c.in-ok-push-count-total.ensures.after in
+    let text₁ = string_bytes c.push_sheet.new.text in
+    let text₂ = string_bytes c.push_depths.new.text in
+    let text₃ = string_bytes c.push_polynomial_total.new.text in
+    let text₄ = string_bytes c.push_count_total.new.text in
+    let head : text₁ ≡ text₀ ++ sheet_line kind c.components.result t = c.in_ok-push_sheet.ensures.after in
+    let depths : text₂ ≡ text₁ ++ depth_lines e t c.max-last.result = c.in_ok-push_depths.ensures.after in
+    let powers : text₃ ≡ text₂ ++ polynomial_line levels top s c.max-last.result = c.in_ok-push_polynomial_total.ensures.after in
+    let states : text₄ ≡ text₃ ++ count_line levels top s c.max-last.result = c.in_ok-push_count_total.ensures.after in
     record {
       after =
           both_added text₀ (sheet_line kind s.components t) (depth_lines e t last ++ (polynomial_line levels top s last ++ count_line levels top s last))

@@ -30,14 +30,14 @@ loop-rest-init g c =
     record {
       front = head.0;
       split = head.1;
-      good = subst (λ (st : List g.row.K.Denot). Front f st head.0 1 c.in-Ok.head.0 (bay_standing c.read-head.new.sheet) (bay_storage c.read-head.new.sheet)) (sym told.storage) head.2;
+      good = subst (λ (st : List g.row.K.Denot). Front f st head.0 1 c.in-Ok.head.0 (bay_standing c.read_head.new.sheet) (bay_storage c.read_head.new.sheet)) (sym told.storage) head.2;
     }
 
-pub overflow-sub-byte : goal.overflow-sub-byte
-overflow-sub-byte g c = let few = reached_few c.loop-rest.invariant in omega arith
+pub overflow_sub-byte : goal.overflow_sub-byte
+overflow_sub-byte g c = let few = reached_few c.loop-rest.invariant in omega arith
 
-pub returns-then-is-empty : goal.returns-then-is-empty
-returns-then-is-empty g c =
+pub returns-then-is_empty : goal.returns-then-is_empty
+returns-then-is_empty g c =
     let rest = c.loop-rest.rest.now in
     let none : length (between 2 (length rest) rest) ≡ 0 = search rules in
     let end : rest ≡ codes "EN" ++ between 2 (length rest) rest = marked 69 78 rest (search rules) (search rules) (search rules) in
@@ -50,8 +50,8 @@ returns-then-is-empty g c =
           (whole reached.good (reached.split ∙ ap (λ xs. reached.front ++ xs) ends));
     }
 
-pub overflow-add-result : goal.overflow-add-result
-overflow-add-result g c = let few = reached_few c.loop-rest.invariant in search rules
+pub overflow_add-result : goal.overflow_add-result
+overflow_add-result g c = let few = reached_few c.loop-rest.invariant in search rules
 
 pub returns-in-69 : goal.returns-in-69
 returns-in-69 g c =
@@ -65,29 +65,29 @@ returns-in-69 g c =
     behind reached.good (reached.split ∙ ap (λ xs. reached.front ++ xs) end) more refl refl (ap (λ n. n + 2) byte) in
     record { answer = faulty_from c.in-Ok.ensures.storage faulty }
 
-pub returns-in-Err-read-record : goal.returns-in-Err-read-record
-returns-in-Err-read-record g c =
-    let told = c.in-Err-read-record.ensures.answer in
+pub returns-in-Err-read_record : goal.returns-in-Err-read_record
+returns-in-Err-read_record g c =
+    let told = c.in-Err-read_record.ensures.answer in
     let f = form g.K.Filed.kind g.K.Kind.top g.K.Filed.width g.K.Filed.coded g.K.Kind.levels in
     let reached = c.loop-rest.invariant in
-    let e : Fault = record { refusal = c.in-Err-read-record.refusal; «record» = c.loop-rest.record; byte = length c.args.input.now - length c.loop-rest.rest.now } in
+    let e : Fault = record { refusal = c.in-Err-read_record.refusal; «record» = c.loop-rest.record; byte = length c.args.input.now - length c.loop-rest.rest.now } in
     let faulty = at_record {e = e} c.loop-rest.rest.now reached.good reached.split told.0 refl (reached_byte reached) in
     record {
       answer = faulty_from c.in-Ok.ensures.storage
-          (subst (λ (st : List g.row.K.Denot). Faulty f (bay_storage c.read-head.new.sheet) c.args.input.now e st) (sym told.1) faulty);
+          (subst (λ (st : List g.row.K.Denot). Faulty f (bay_storage c.read_head.new.sheet) c.args.input.now e st) (sym told.1) faulty);
     }
 
-pub overflow-add-record : goal.overflow-add-record
-overflow-add-record g c = let few = reached_few c.loop-rest.invariant in search rules
+pub overflow_add-record : goal.overflow_add-record
+overflow_add-record g c = let few = reached_few c.loop-rest.invariant in search rules
 
 pub loop-rest-smaller : goal.loop-rest-smaller
 loop-rest-smaller g c =
-    let told = c.in-Ok-read-record.ensures.answer in
-    let long = ap length told.1 ∙ length-append told.0 c.in-Ok-read-record.behind.now in
+    let told = c.in-Ok-read_record.ensures.answer in
+    let long = ap length told.1 ∙ length-append told.0 c.in-Ok-read_record.behind.now in
     let some = told.2 in
     omega arith
 
 pub loop-rest-preserved : goal.loop-rest-preserved
 loop-rest-preserved g c =
-    let told = c.in-Ok-read-record.ensures.answer in
+    let told = c.in-Ok-read_record.ensures.answer in
     reached_more c.loop-rest.invariant told.1 told.3

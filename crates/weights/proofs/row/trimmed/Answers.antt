@@ -11,8 +11,8 @@ loop-place-preserved c =
     let place = c.loop-place.place in
     let inv = c.loop-place.invariant in
     elim c.if-place-from.branch [
-      | then-place-from w ↦ trimming_more inv (omega arith) (sym (trimmed_from top row place (omega arith))) w.weight·items-is
-      | else-place-from w ↦ trimming_more inv (omega arith) (inv.past place (omega arith) ∙ sym (trimmed_below top row place (omega arith))) w.weight·items-is
+      | then-place-from w ↦ trimming_more inv (omega arith) (sym (trimmed_from top row place (omega arith))) w.weight-items-is
+      | else-place-from w ↦ trimming_more inv (omega arith) (inv.past place (omega arith) ∙ sym (trimmed_below top row place (omega arith))) w.weight-items-is
     ]
 
 pub returns : goal.returns

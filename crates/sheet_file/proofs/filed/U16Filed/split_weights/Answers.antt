@@ -7,5 +7,5 @@ pub returns : goal.returns
 returns c =
     let bytes = c.args.fields.now in
     let word = λ (i : ℕ). big_endian (elements 2 i bytes) in
-    let first : c.from-be-bytes.result ≡ word 1 = omega (arith, c.from-be-bytes.ensures) in
+    let first : c.from_be_bytes.result ≡ word 1 = omega (arith, c.from_be_bytes.ensures) in
     record { answer = (elements 2 1 bytes, first_elements 3 bytes (search rules), refl, ap (λ w. w ∷ 0 ∷ 0 ∷ []) first) }

@@ -22,8 +22,8 @@ returns g c =
     let before = bay_standing self in
     let r = c.fit.result in
     let behind = clutter_causes (map levels (take held places)) (capacity places) (levels d) in
-    let from_empty = passes r (4, AsksFrom 0 (levels d) → ⊥) behind (λ none. none (c.asks-from-2.ensures.answer.0 c.if-not-asks-from.false)) c.fit.ensures.refused in
-    let outcome = passes r (1, AsksFrom self.components (levels d)) ((4, AsksFrom 0 (levels d) → ⊥) ∷ behind) (not_from_Decides c.asks-from.result c.asks-from.ensures.answer c.if-asks-from.false) from_empty in
+    let from_empty = passes r (4, AsksFrom 0 (levels d) → ⊥) behind (λ none. none (c.asks_from-2.ensures.answer.0 c.if-not-asks_from.false)) c.fit.ensures.refused in
+    let outcome = passes r (1, AsksFrom self.components (levels d)) ((4, AsksFrom 0 (levels d) → ⊥) ∷ behind) (not_from_Decides c.asks_from.result c.asks_from.ensures.answer c.if-asks_from.false) from_empty in
     let long = length-take-le held places self.within in
     let after = standing_fitted levels r held c.fit.new.self.held places c.fit.new.self.places.now d self.components self.card.rows self.within c.fit.ensures.refused c.fit.ensures.standing c.fit.ensures.storage in
     record {
@@ -32,5 +32,5 @@ returns g c =
       standing = after;
       storage = c.fit.ensures.storage ∙ ap (λ n. cond (is_ok r) (set places n d) places) (sym long);
       settled = kept_settled levels top r (causes levels top (capacity places) before (fit d)) before (fitted d before) _ outcome after (fitted_settled levels top (capacity places) before d);
-      never-lowers = fit_raises levels top before _ d (is_ok r) (proper levels top before g.met.K.Kind.top_most self.most self.falling) after;
+      never_lowers = fit_raises levels top before _ d (is_ok r) (proper levels top before g.met.K.Kind.top_most self.most self.falling) after;
     }

@@ -15,7 +15,7 @@ use Rattle.sheets.proofs.bay.BaySheet.set.Goals as goal
 pub invariant-of-self : goal.invariant-of-self
 invariant-of-self g c =
     let self = c.args.self.now in
-    let top = c.top-level-top.result in
+    let top = c.top_level-top.result in
     let kept = c.trimmed.ensures.answer in
     let row-falls = subst (Falling 3) (sym kept) (trimmed_falling top c.args.row (c.falls.ensures.answer.0 c.if-not-falls.false) 3) in
     let falls = set_falling self.card.rows c.args.component c.trimmed.result 3 self.falling row-falls in
@@ -28,10 +28,10 @@ returns g c =
     let self = c.args.self.now in
     let row = c.args.row in
     let carded : List (List ℕ) → Standing g.row.K.Denot = λ card. record { needs = held self.needs; components = self.components; card = card } in
-    let written = c.write.ensures.after ∙ ap (set self.card.rows c.args.component) (c.trimmed.ensures.answer ∙ ap (λ t. trimmed t row) c.top-level-top.ensures.answer) in
+    let written = c.write.ensures.after ∙ ap (set self.card.rows c.args.component) (c.trimmed.ensures.answer ∙ ap (λ t. trimmed t row) c.top_level-top.ensures.answer) in
     let accepted : Accepted (causes levels top (capacity (bay_storage self)) (bay_standing self) (set_row c.args.component row)) = search rules in
     let s = bay_standing self in
-    let follows = sets_follow_weights (setting_of levels top s) c.args.component row (needs_of levels top s) (proper levels top s g.met.K.Kind.top_most self.most self.falling) (subst (λ t. Falling t row) c.top-level-top.ensures.answer (c.falls.ensures.answer.0 c.if-not-falls.false)) in
+    let follows = sets_follow_weights (setting_of levels top s) c.args.component row (needs_of levels top s) (proper levels top s g.met.K.Kind.top_most self.most self.falling) (subst (λ t. Falling t row) c.top_level-top.ensures.answer (c.falls.ensures.answer.0 c.if-not-falls.false)) in
     record {
       refused = accepted;
       standing = ap carded written;

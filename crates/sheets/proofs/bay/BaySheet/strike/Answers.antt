@@ -32,7 +32,7 @@ returns g c =
       standing = after;
       storage = c.strike.ensures.storage ∙ ap (λ n. cond (is_ok r) (struck-storage n p places) places) long;
       settled = λ settled. by-outcome (Settled levels top) r table before (struck p before) _ outcome after (λ accepted. struck-settled levels top (capacity places) before p accepted settled) settled;
-      never-raises =
+      never_raises =
           by-outcome (λ s. reliability_of levels top s ≤ℤ reliability_of levels top before) r table before (struck p before) _ outcome after
           (λ _. strike-lowers levels top before p (proper levels top before g.met.K.Kind.top_most self.most self.falling)) (≤ℤ_refl (reliability_of levels top before));
     }

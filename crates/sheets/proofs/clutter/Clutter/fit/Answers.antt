@@ -13,7 +13,7 @@ pub returns-then-place-min : goal.returns-then-place-min
 returns-then-place-min g c =
     let levels = g.K.Kind.levels in
     let self = c.args.self.now in
-    let none = subst (λ (ds : List g.row.K.Denot). (p : ℕ) → ComparableAt (map levels ds) (levels c.args.need) p → ⊥) c.needs.ensures.answer c.in-default.ensures.answer in
+    let none = subst (λ (ds : List g.row.K.Denot). (p : ℕ) → ComparableAt (map levels ds) (levels c.args.need) p → ⊥) c.needs.ensures.answer c.in_default.ensures.answer in
     let long = held_length levels self.held self.places.now c.requires.within in
     record { within = c.requires.within; few = c.requires.few; refused = inr (λ h. none h.0 h.1, inl (omega (arith, c.min.ensures), refl)); answer = tt; standing = refl; storage = refl }
 
@@ -21,6 +21,6 @@ pub returns : goal.returns
 returns g c =
     let levels = g.K.Kind.levels in
     let self = c.args.self.now in
-    let none = subst (λ (ds : List g.row.K.Denot). (p : ℕ) → ComparableAt (map levels ds) (levels c.args.need) p → ⊥) c.needs.ensures.answer c.in-default.ensures.answer in
+    let none = subst (λ (ds : List g.row.K.Denot). (p : ℕ) → ComparableAt (map levels ds) (levels c.args.need) p → ⊥) c.needs.ensures.answer c.in_default.ensures.answer in
     let long = held_length levels self.held self.places.now c.requires.within in
     record { within = simp length-set (omega (arith, c.min.ensures)); few = omega (arith, c.min.ensures); refused = (λ h. none h.0 h.1, (λ h. omega (arith, c.min.ensures), tt)); answer = refl; standing = refl; storage = refl }

@@ -11,10 +11,10 @@ returns g c =
     let places = c.args.self.now.places.now in
     let held = c.args.self.now.held in
     let p = c.args.place in
-    let row = c.close-up.new.row in
+    let row = c.close_up.new.row in
     let all : held - 0 ≡ held = sub-zero held in
     let after : row ++ drop (held - 0) places ≡ struck-storage held p places =
-    ap (λ n. row ++ drop n places) all ∙ struck_places places held p c.requires.within c.if-place-held.false row (c.close-up.ensures.after ∙ ap (λ n. closed_up (take n places) p) all) in
+    ap (λ n. row ++ drop n places) all ∙ struck_places places held p c.requires.within c.if-place-held.false row (c.close_up.ensures.after ∙ ap (λ n. closed_up (take n places) p) all) in
     record {
       within = omega (arith, ap length after, struck_length places held p c.requires.within c.if-place-held.false);
       refused = search rules;

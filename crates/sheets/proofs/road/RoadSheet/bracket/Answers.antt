@@ -12,8 +12,8 @@ returns-in-Some g c =
     record {
       refused = search rules;
       answer = search rules;
-      holds-reliability = pair_holds _ _ around c.args.depth _ (search rules);
-      deeper-lies-inside = deeper_inside _ _ around c.args.depth _ (search rules);
+      holds_reliability = pair_holds _ _ around c.args.depth _ (search rules);
+      deeper_lies_inside = deeper_inside _ _ around c.args.depth _ (search rules);
       totals_bound_reliability = road_bounded g.K.Kind.levels g.K.Kind.top low most c.args.self.now;
     }
 
@@ -22,7 +22,7 @@ returns-in-None g c =
     record {
       refused = search rules;
       answer = tt;
-      holds-reliability = tt;
-      deeper-lies-inside = tt;
+      holds_reliability = tt;
+      deeper_lies_inside = tt;
       totals_bound_reliability = road_bounded g.K.Kind.levels g.K.Kind.top g.met.K.Kind.top_most g.met.K.Kind.levels_most c.args.self.now;
     }

@@ -7,5 +7,5 @@ returns g c =
     let levels = g.K.Kind.levels in
     let d = levels c.args.need in
     record {
-      answer = subst (λ (xs : List g.row.K.Denot). MatchOption c.same-place.result ((p : ℕ) → SameAt (map levels xs) d p → ⊥) (Lowest (SameAt (map levels xs) d))) c.needs.ensures.answer c.same-place.ensures.answer;
+      answer = subst (λ (xs : List g.row.K.Denot). MatchOption c.same_place.result ((p : ℕ) → SameAt (map levels xs) d p → ⊥) (Lowest (SameAt (map levels xs) d))) c.needs.ensures.answer c.same_place.ensures.answer;
     }

@@ -13,6 +13,6 @@ returns g c =
     record {
       refused = search rules;
       answer = search rules;
-      tells-reliability = verdict_tells _ _ told c.args.depth c.args.threshold _ (search rules);
-      decides-at-full-depth = λ full. verdict_decides _ _ told c.args.depth c.args.threshold _ (search rules) (omega arith);
+      tells_reliability = verdict_tells _ _ told c.args.depth c.args.threshold _ (search rules);
+      decides_at_full_depth = λ full. verdict_decides _ _ told c.args.depth c.args.threshold _ (search rules) (omega arith);
     }

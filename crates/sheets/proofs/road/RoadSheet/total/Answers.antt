@@ -15,5 +15,5 @@ returns g c =
     record {
       refused = search rules;
       answer = search rules;
-      counts-states = search rules ∙ totals_count_states g.A.Algebra.model (setting_of levels top s) (needs_of levels top s) c.args.depth within-top;
+      counts_states = search rules ∙ totals_count_states g.A.Algebra.model (setting_of levels top s) (needs_of levels top s) c.args.depth within-top;
     }

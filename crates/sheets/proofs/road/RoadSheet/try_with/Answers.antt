@@ -22,7 +22,7 @@ returns-in-Some g c =
     let depth = c.args.depth in
     let alike : List ℕ = replicate 3 (weight_of what) in
     let row_is : c.trimmed-row.result ≡ trimmed top alike =
-    c.trimmed-row.ensures.answer ∙ ap (λ t. trimmed t (replicate 3 c.weight.result)) c.top-level.ensures.answer ∙ ap (λ w. trimmed top (replicate 3 w)) c.weight.ensures.answer in
+    c.trimmed-row.ensures.answer ∙ ap (λ t. trimmed t (replicate 3 c.weight.result)) c.top_level.ensures.answer ∙ ap (λ w. trimmed top (replicate 3 w)) c.weight.ensures.answer in
     let by : List (List ℕ) → List g.row.K.Denot → Ends = λ rows ds. ends (setting self.components rows top) (map levels ds) depth in
     let ends-are : c.in-Some.ends ≡ road_ends levels top (tried top i what (road_standing self)) depth =
     c.in-Some.ensures.answer.0 ∙ ap (λ row. by (set self.card.rows i row) c.needs-needs.result.now) row_is ∙ ap (by (set self.card.rows i (trimmed top alike))) c.needs-needs.ensures.answer in
@@ -31,8 +31,8 @@ returns-in-Some g c =
     record {
       refused = search rules;
       answer = answer;
-      holds-reliability = pair_holds _ _ around depth _ answer;
-      deeper-lies-inside = deeper_inside _ _ around depth _ answer;
+      holds_reliability = pair_holds _ _ around depth _ answer;
+      deeper_lies_inside = deeper_inside _ _ around depth _ answer;
       bound = pair_bound _ _ around depth _ answer;
       standing = ap (λ rows. record { needs = held self.needs; components = self.components; card = rows }) c.in-Some.ensures.after;
       storage = search rules;
