@@ -3,6 +3,7 @@ use Rattle.std.proofs.Common.{◌≡◌, ℕ, ◌≤◌, Bool, true, false, cond
 use lib.Signed.{≤ℤ_refl}
 use Rattle.std.proofs.lemmas.List.{map-append}
 use Rattle.needs.specs.Levels.{Need}
+use Rattle.needs.specs.declared.Kind.{Ghosts}
 use Rattle.weights.specs.Chances.{Falling}
 use Rattle.inclusion_exclusion.specs.States.{Within}
 use Rattle.inclusion_exclusion.specs.Reliability.{Proper, Bounded, reliability}
@@ -24,7 +25,7 @@ module _ {K : Type 0} (levels : K → Need) (top : ℕ) where
   pub proper : (s : Standing K) → top ≤ 3 → s.components ≤ 8 → ((i : ℕ) → Falling 3 (get_or s.card i [])) → Proper (setting_of levels top s)
   proper s low few falling = record { few = few; falling = λ i l h. falling i l (omega arith) }
 
-  module _ (low : top ≤ 3) (most : (d : K) (i : ℕ) → levels d i ≤ top) (x : RoadSheet K) where
+  module _ (low : top ≤ 3) (most : (d : K) (i : ℕ) → levels d i ≤ top) {kind : Ghosts K} (x : RoadSheet K kind) where
     pub road_bounded : Bounded (setting_of levels top (road_standing x)) (needs_of levels top (road_standing x))
     road_bounded =
         let s = road_standing x in

@@ -22,27 +22,29 @@ module _ {K : Type 0} where
   abbrev pub held : Clutter K → List K
   held c = take c.held c.places.now
 
-  abbrev pub bay_storage : BaySheet K → List K
+module _ {K : Type 0} {kind : Ghosts K} where
+  abbrev pub bay_storage : BaySheet K kind → List K
   bay_storage s = s.needs.places.now
 
-  abbrev pub road_storage : RoadSheet K → List K
+  abbrev pub road_storage : RoadSheet K kind → List K
   road_storage s = s.needs.places.now
 
-  abbrev pub bay_standing : BaySheet K → Standing K
+  abbrev pub bay_standing : BaySheet K kind → Standing K
   bay_standing s = record { needs = held s.needs; components = s.components; card = s.card.rows }
 
-  abbrev pub road_standing : RoadSheet K → Standing K
+  abbrev pub road_standing : RoadSheet K kind → Standing K
   road_standing s = record { needs = held s.needs; components = s.components; card = s.card.rows }
 
+module _ {K : Type 0} (kind : Ghosts K) where
   -- the causes of a call's refusal, by what the sheet holds
-  abbrev pub bay_causes : Ghosts K → BaySheet K → Call K → List (ℕ × Type 0)
-  bay_causes kind s = causes kind.levels kind.top (capacity (bay_storage s)) (bay_standing s)
+  abbrev pub bay_causes : BaySheet K kind → Call K → List (ℕ × Type 0)
+  bay_causes s = causes kind.levels kind.top (capacity (bay_storage s)) (bay_standing s)
 
-  abbrev pub road_causes : Ghosts K → RoadSheet K → Call K → List (ℕ × Type 0)
-  road_causes kind s = causes kind.levels kind.top (capacity (road_storage s)) (road_standing s)
+  abbrev pub road_causes : RoadSheet K kind → Call K → List (ℕ × Type 0)
+  road_causes s = causes kind.levels kind.top (capacity (road_storage s)) (road_standing s)
 
-  abbrev pub bay_reliability : Ghosts K → BaySheet K → ℤ
-  bay_reliability kind s = reliability_of kind.levels kind.top (bay_standing s)
+  abbrev pub bay_reliability : BaySheet K kind → ℤ
+  bay_reliability s = reliability_of kind.levels kind.top (bay_standing s)
 
-  abbrev pub road_reliability : Ghosts K → RoadSheet K → ℤ
-  road_reliability kind s = reliability_of kind.levels kind.top (road_standing s)
+  abbrev pub road_reliability : RoadSheet K kind → ℤ
+  road_reliability s = reliability_of kind.levels kind.top (road_standing s)

@@ -24,7 +24,7 @@ returns-then-depth-needs g c =
     let long = length-map c.args.needs.now g.K.Kind.levels in
     let read : c.signed-total.result ≡ totals s ds c.args.depth.of = c.signed-total.ensures.answer ∙ ap signed c.total.ensures.answer ∙ ap (totals s ds) c.get-depth.ensures.answer in
     let full : true ≡ leb (length ds) c.args.depth.of = search (rules, nat_tests) in
-    record { answer = ap (λ z. both z z) (to_z-of_z w64 c.signed-total.result (record { sfits = c.signed-total.type-inv }) ∙ read) ∙ ends_by s ds c.args.depth.of true full }
+    record { answer = ap (λ z. both z z) (to_z-of_z w64 c.signed-total.result (record { sfits = c.signed-total.type_inv }) ∙ read) ∙ ends_by s ds c.args.depth.of true full }
 
 pub returns : goal.returns
 returns g c =

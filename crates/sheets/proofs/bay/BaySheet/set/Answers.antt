@@ -12,14 +12,14 @@ use Rattle.sheets.proofs.Reliable.{proper}
 use Rattle.sheets.proofs.Settled.{weighted_settled}
 use Rattle.sheets.proofs.bay.BaySheet.set.Goals as goal
 
-pub invariant-of-self : goal.invariant-of-self
-invariant-of-self g c =
+pub invariant_of-self : goal.invariant_of-self
+invariant_of-self g c =
     let self = c.args.self.now in
     let top = c.top_level-top.result in
     let kept = c.trimmed.ensures.answer in
     let row-falls = subst (Falling 3) (sym kept) (trimmed_falling top c.args.row (c.falls.ensures.answer.0 c.if-not-falls.false) 3) in
     let falls = set_falling self.card.rows c.args.component c.trimmed.result 3 self.falling row-falls in
-    (self.within, (self.few, (self.least, (self.most, (subst (λ (card : List (List ℕ)). (i : ℕ) → Falling 3 (get_or card i [])) (sym c.write.ensures.after) falls, tt)))))
+    record { within = self.within; few = self.few; least = self.least; most = self.most; falling = subst (λ (card : List (List ℕ)). (i : ℕ) → Falling 3 (get_or card i [])) (sym c.write.ensures.after) falls }
 
 pub returns : goal.returns
 returns g c =
