@@ -86,7 +86,7 @@ fn report_as<K: Filed>(
     kind: &str,
     places: &mut [K],
 ) -> Result<String, fmt::Error>
-    ensures answer { IfOk result (λ text. ReportedAs (form_of K.Kind K.Filed) kind.now places.old input.now (string_bytes text)) }
+    ensures answer { IfOk result (λ text. ReportedAs (form_of K.Kind K.Filed.own) kind.now places.old input.now (string_bytes text)) }
 {
     let mut text = String::new(heap);
     let mut sheet = BaySheet::open(places);

@@ -20,7 +20,7 @@ fn read_head<'b, K: Filed>(
 ) -> Result<(u16, &'b [u8]), Refusal>
     requires opened { bay_standing sheet.old ≡ opened }
     ensures storage { bay_storage sheet.new ≡ bay_storage sheet.old }
-    ensures answer { MatchResult result (λ x. (head : List ℕ) × (bytes.now ≡ head ++ x.1.now) × Front (form_of K.Kind K.Filed) (bay_storage sheet.old) head 1 x.0 (bay_standing sheet.new) (bay_storage sheet.new)) (λ e. WrongHead (form_of K.Kind K.Filed) bytes.now (number e)) }
+    ensures answer { MatchResult result (λ x. (head : List ℕ) × (bytes.now ≡ head ++ x.1.now) × Front (form_of K.Kind K.Filed.own) (bay_storage sheet.old) head 1 x.0 (bay_standing sheet.new) (bay_storage sheet.new)) (λ e. WrongHead (form_of K.Kind K.Filed.own) bytes.now (number e)) }
 {
     let fields = match bytes {
         [b'T', b'S', fields @ ..] => fields,
@@ -47,7 +47,7 @@ fn read_record<'b, K: Filed>(
     sheet: &mut BaySheet<'_, K>,
 ) -> Result<&'b [u8], Refusal>
     requires record { ((rest : List ℕ) → bytes.now ≢ codes "EN" ++ rest) }
-    ensures answer { MatchResult result (λ rest. (more : List ℕ) × (bytes.now ≡ more ++ rest.now) × (2 ≤ length more) × Longer (form_of K.Kind K.Filed) more (bay_standing sheet.old) (bay_storage sheet.old) (bay_standing sheet.new) (bay_storage sheet.new)) (λ e. WrongRecord (form_of K.Kind K.Filed) (bay_standing sheet.old) (bay_storage sheet.old) bytes.now (number e) (place e) × (bay_storage sheet.new ≡ bay_storage sheet.old)) }
+    ensures answer { MatchResult result (λ rest. (more : List ℕ) × (bytes.now ≡ more ++ rest.now) × (2 ≤ length more) × Longer (form_of K.Kind K.Filed.own) more (bay_standing sheet.old) (bay_storage sheet.old) (bay_standing sheet.new) (bay_storage sheet.new)) (λ e. WrongRecord (form_of K.Kind K.Filed.own) (bay_standing sheet.old) (bay_storage sheet.old) bytes.now (number e) (place e) × (bay_storage sheet.new ≡ bay_storage sheet.old)) }
 {
     match bytes {
         [b'W', b'T', fields @ ..] => {
@@ -73,7 +73,7 @@ fn read_record<'b, K: Filed>(
 // All records up to the end, carried out on a sheet as opened.
 fn read_records<K: Filed>(input: &[u8], sheet: &mut BaySheet<'_, K>) -> Result<u16, Fault>
     requires opened { bay_standing sheet.old ≡ opened }
-    ensures answer { MatchResult result (λ t. Read (form_of K.Kind K.Filed) (bay_storage sheet.old) input.now t (bay_standing sheet.new) (bay_storage sheet.new)) (λ e. Faulty (form_of K.Kind K.Filed) (bay_storage sheet.old) input.now e (bay_storage sheet.new)) }
+    ensures answer { MatchResult result (λ t. Read (form_of K.Kind K.Filed.own) (bay_storage sheet.old) input.now t (bay_standing sheet.new) (bay_storage sheet.new)) (λ e. Faulty (form_of K.Kind K.Filed.own) (bay_storage sheet.old) input.now e (bay_storage sheet.new)) }
 {
     let (threshold, mut rest) = match read_head(input, sheet) {
         Ok(head) => head,
@@ -110,7 +110,7 @@ fn read_records<K: Filed>(input: &[u8], sheet: &mut BaySheet<'_, K>) -> Result<u
 
 // Reads a sheet file into a sheet, which is first put back to its opening, and so it is again after a fault.
 pub fn read<K: Filed>(input: &[u8], sheet: &mut BaySheet<'_, K>) -> Result<u16, Fault>
-    ensures answer { MatchResult result (λ t. Read (form_of K.Kind K.Filed) (bay_storage sheet.old) input.now t (bay_standing sheet.new) (bay_storage sheet.new)) (λ e. Faulty (form_of K.Kind K.Filed) (bay_storage sheet.old) input.now e (bay_storage sheet.new)) }
+    ensures answer { MatchResult result (λ t. Read (form_of K.Kind K.Filed.own) (bay_storage sheet.old) input.now t (bay_standing sheet.new) (bay_storage sheet.new)) (λ e. Faulty (form_of K.Kind K.Filed.own) (bay_storage sheet.old) input.now e (bay_storage sheet.new)) }
     ensures standing { OnErr result (bay_standing sheet.new ≡ opened) }
 {
     sheet.reopen();

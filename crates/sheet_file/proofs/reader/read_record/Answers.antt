@@ -21,24 +21,24 @@ pub returns-in_default-split_need : goal.returns-in_default-split_need
 returns-in_default-split_need g c =
     record { answer = (need_short (search rules) c.in_default-split_need.ensures.answer, refl) }
 
-pub returns-in_err-set : goal.returns-in_err-set
-returns-in_err-set g c =
-    let told = c.in_err-set.ensures in
+pub returns-in_err-set-in-87 : goal.returns-in_err-set-in-87
+returns-in_err-set-in-87 g c =
+    let told = c.in_err-set-in-87.ensures in
     let p = err_from_is_err_and c.from_residual.result c.from_residual.ensures.1 in
-    rw (p.1, p.2) record { answer = (weights_wrong c.in_err-set.field-0.0 told.refused (search rules) c.from.ensures c.in-Some.ensures.answer, told.storage) }
+    rw (p.1, p.2) record { answer = (weights_wrong c.in_err-set-in-87.field-0.0 told.refused (search rules) c.from.ensures c.in-Some.ensures.answer, told.storage) }
 
-pub returns-in_err-fit : goal.returns-in_err-fit
-returns-in_err-fit g c =
-    let told = c.in_err-fit.ensures in
-    let p = err_from_is_err_and c.from_residual-in_err-fit.result c.from_residual-in_err-fit.ensures.1 in
+pub returns-in_err-fit-in-78 : goal.returns-in_err-fit-in-78
+returns-in_err-fit-in-78 g c =
+    let told = c.in_err-fit-in-78.ensures in
+    let p = err_from_is_err_and c.from_residual-in_err-fit-in-78.result c.from_residual-in_err-fit-in-78.ensures.1 in
     rw (p.1, p.2) record { answer = (need_wrong told.refused told.answer (search rules) (search rules) c.in-Some-split_need.ensures.answer, told.storage) }
 
-pub returns-in_ok-set : goal.returns-in_ok-set
-returns-in_ok-set g c =
-    let told = c.in_ok-set.ensures in
+pub returns-in_ok-set-in-87 : goal.returns-in_ok-set-in-87
+returns-in_ok-set-in-87 g c =
+    let told = c.in_ok-set-in-87.ensures in
     record { answer = weights_taken told.refused told.standing told.storage (search rules) c.from.ensures c.in-Some.ensures.answer }
 
-pub returns-in_ok-fit : goal.returns-in_ok-fit
-returns-in_ok-fit g c =
-    let told = c.in_ok-fit.ensures in
+pub returns-in_ok-fit-in-78 : goal.returns-in_ok-fit-in-78
+returns-in_ok-fit-in-78 g c =
+    let told = c.in_ok-fit-in-78.ensures in
     record { answer = need_taken told.refused told.standing told.storage (search rules) (search rules) (search rules) c.in-Some-split_need.ensures.answer }
