@@ -1,6 +1,6 @@
 // The lines of a report, each added to the text so far.
 ghost use Rattle.std.specs.Prelude.{◌≡◌, ℕ, ◌+◌, ◌≤◌, ◌++◌, string_bytes, codes, OnOk};
-ghost use Rattle.std.specs.Fmt.{signed_decimal as signed_decimal};
+ghost use Rattle.std.specs.Fmt.{signed_decimal};
 ghost use Rattle.algebras.specs.Meanings.{coefficients as polynomial_of};
 ghost use Rattle.algebras.specs.Residues.{signed as signed_of};
 ghost use Rattle.sheets.specs.Answers.{road_ends};
@@ -21,7 +21,8 @@ pub(crate) fn push_sheet(
 ) -> fmt::Result
     ensures after { OnOk result (string_bytes text.new ≡ string_bytes text.old ++ sheet_line kind.now components threshold) }
 {
-    write!(text, "sheet {kind} {components} {threshold}\n")
+    write!(text, "sheet {kind} {components} {threshold}\n")?;
+    Ok(())
 }
 
 fn push_depth<K: Kind>(
@@ -41,7 +42,8 @@ fn push_depth<K: Kind>(
     let Ok(verdict) = sheet.judge(depth, threshold) else {
         unreachable()
     };
-    write!(text, "depth {depth} {low} {high} {verdict}\n")
+    write!(text, "depth {depth} {low} {high} {verdict}\n")?;
+    Ok(())
 }
 
 // The lines of all depths up to the last one.
@@ -64,13 +66,15 @@ pub(crate) fn push_depths<K: Kind>(
 fn push_word(text: &mut String, word: &str) -> fmt::Result
     ensures after { OnOk result (string_bytes text.new ≡ string_bytes text.old ++ word.now) }
 {
-    write!(text, "{word}")
+    write!(text, "{word}")?;
+    Ok(())
 }
 
 fn push_coefficient(text: &mut String, coefficient: i64) -> fmt::Result
     ensures after { OnOk result (string_bytes text.new ≡ string_bytes text.old ++ (codes " " ++ signed_decimal coefficient)) }
 {
-    write!(text, " {coefficient}")
+    write!(text, " {coefficient}")?;
+    Ok(())
 }
 
 // The coefficients of the powers below `count`.
@@ -99,5 +103,6 @@ pub(crate) fn push_polynomial(
 pub(crate) fn push_states(text: &mut String, states: u64) -> fmt::Result
     ensures after { OnOk result (string_bytes text.new ≡ string_bytes text.old ++ states_line states) }
 {
-    write!(text, "states {states}\n")
+    write!(text, "states {states}\n")?;
+    Ok(())
 }

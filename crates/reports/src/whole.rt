@@ -28,7 +28,8 @@ fn push_fault(text: &mut String, fault: &Fault) -> fmt::Result
     let layer = fault.layer();
     let record = fault.record;
     let byte = fault.byte;
-    write!(text, "fault {number} {layer} {record} {byte}\n")
+    write!(text, "fault {number} {layer} {record} {byte}\n")?;
+    Ok(())
 }
 
 fn push_polynomial_total<K: Kind>(

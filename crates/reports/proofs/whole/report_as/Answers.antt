@@ -10,7 +10,7 @@ use Rattle.reports.specs.Lines.{report_text}
 use Rattle.reports.specs.Reported.{fault_line}
 use Rattle.reports.specs.Reported.ReportedAs.{whole, faulty}
 use Rattle.reports.proofs.whole.report_as.Goals as goal
-use Rattle.reports.proofs.whole.report_as.Goals.{in-Ok+in_ok-push_report, in-Err+in_ok-push_fault}
+use Rattle.reports.proofs.whole.report_as.Goals.{in-Ok+in_ok-push_report-in-Ok, in-Err+in_ok-push_fault-in-Err}
 
 pub push_report-requires : goal.push_report-requires
 push_report-requires g c = record { threshold = read_threshold c.in-Ok.ensures.answer }
@@ -27,17 +27,17 @@ returns g c =
     let faulty_from = λ (e : Fault) (st : List g.row.K.Denot) (r : Faulty f (bay_storage c.open-sheet.result) input e st). subst (λ (first : List g.row.K.Denot). Faulty f first input e st) start r in
     record {
       answer = elim c.match-read.branch [
-        | in-Ok+in_ok-push_report w ↦
+        | in-Ok+in_ok-push_report-in-Ok w ↦
             let t = w.in-Ok.threshold in
             let s = bay_standing c.read.new.sheet in
-            let pushed : string_bytes w.push_report.new.text ≡ string_bytes c.new-text.result ++ report_text g.K.Kind.levels g.K.Kind.top (road_standing w.put_out.result) kind t = w.in_ok-push_report.ensures.after in
+            let pushed : string_bytes w.push_report.new.text ≡ string_bytes c.new-text.result ++ report_text g.K.Kind.levels g.K.Kind.top (road_standing w.put_out.result) kind t = w.in_ok-push_report-in-Ok.ensures.after in
             whole t s (bay_storage c.read.new.sheet) (read-from t s (bay_storage c.read.new.sheet) w.in-Ok.ensures.answer)
             (ap string_bytes w.text-is ∙ pushed ∙ ap (λ x. x ++ report_text g.K.Kind.levels g.K.Kind.top (road_standing w.put_out.result) kind t) empty
             ∙ ap (λ x. report_text g.K.Kind.levels g.K.Kind.top x kind t) w.put_out.ensures.standing)
-        | in-Err+in_ok-push_fault w ↦
+        | in-Err+in_ok-push_fault-in-Err w ↦
             let e = w.in-Err.fault in
             let line = fault_line (number e.refusal) e.«record» e.byte in
-            let pushed : string_bytes w.push_fault.new.text ≡ string_bytes c.new-text.result ++ line = w.in_ok-push_fault.ensures.after in
+            let pushed : string_bytes w.push_fault.new.text ≡ string_bytes c.new-text.result ++ line = w.in_ok-push_fault-in-Err.ensures.after in
             faulty e (bay_storage c.read.new.sheet) (faulty_from e (bay_storage c.read.new.sheet) w.in-Err.ensures.answer)
             (ap string_bytes w.text-is ∙ pushed ∙ ap (λ x. x ++ line) empty)
       ];
