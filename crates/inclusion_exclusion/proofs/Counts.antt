@@ -7,7 +7,7 @@ use Rattle.totals.proofs.Groups.{turns}
 use Rattle.inclusion_exclusion.specs.States.{choose, count}
 
 -- a state is counted once where a warning arrives
-abbrev pub once : (needs-met : ℕ) → ℤ
+abbrev pub once : (needs_met : ℕ) → ℤ
 once k = cond (ltb 0 k) (pos 1) (pos 0)
 
 once_met : (k : ℕ) → once (suc k) ≡ pos 1

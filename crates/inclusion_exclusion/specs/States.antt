@@ -48,7 +48,7 @@ choose n zero = 1
 choose zero (suc r) = 0
 choose (suc n) (suc r) = choose n r + choose n (suc r)
 
-abbrev pub count : (needs-met depth : ℕ) → ℤ
+abbrev pub count : (needs_met depth : ℕ) → ℤ
 count zero r = pos 0
 count (suc k) r = cond (r % 2 == 0) (pos 1 -ℤ pos (choose k r)) (pos 1 +ℤ pos (choose k r))
 
