@@ -1,5 +1,5 @@
 -- A row that is closed up step by step: so many of the places behind one that was taken out have moved down. Assumes nothing.
-use Rattle.std.proofs.Common.{◌≡◌, ℕ, suc, ◌+◌, ◌-◌, ◌<◌, ◌≤◌, true, false, cond, ltb, List, [], ◌++◌, length, get_or, take, drop, set, sym, refl, ap, ◌∙◌, subst, inl, inr, append-nil, arith, length-drop, get_or-drop, take_all}
+use Rattle.std.proofs.Common.{◌≡◌, ℕ, suc, ◌+◌, ◌-◌, ◌<◌, ◌≤◌, List, [], ◌++◌, length, get_or, take, drop, set, sym, ap, ◌∙◌, subst, inl, inr, append-nil, arith, length-drop, get_or-drop, take_all}
 use lib.Seq.{paste, paste-zero, take-nil, drop-paste}
 use native.Mathlib.Nat.{sub_self}
 use Rattle.std.proofs.lemmas.List.Edits.{paste_more}

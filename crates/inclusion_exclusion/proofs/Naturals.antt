@@ -1,5 +1,5 @@
 -- The weights of states as natural numbers: what the fixed algebra and the whole numbers both give where weights never rise. Assumes nothing.
-use Rattle.std.proofs.Common.{◌≡◌, ℕ, zero, suc, ◌+◌, ◌-◌, ◌*◌, ◌^◌, ◌≤◌, Bool, true, false, cond, leb, List, [], ◌∷◌, pos, sym, refl, ap, ◌∙◌, inl, inr, mul-zero, mul-add, arith}
+use Rattle.std.proofs.Common.{◌≡◌, ℕ, suc, ◌+◌, ◌-◌, ◌*◌, ◌^◌, ◌≤◌, Bool, true, false, cond, leb, List, [], ◌∷◌, pos, sym, refl, ap, ◌∙◌, inl, inr, mul-zero, mul-add, arith}
 use native.Mathlib.Nat.{add-mod}
 use Rattle.std.proofs.lemmas.Bool.{cases_lt}
 use Rattle.std.proofs.lemmas.Bool.Decides.{nat_tests}

@@ -5,7 +5,7 @@
 -- follows    the reliability never falls with a set that raises, and never rises with one that lowers
 -- strike     takes one need out of a sheet
 -- rewritten  a card with a new row for one component; the row's weights above the top are noted as 0
-use Rattle.std.specs.Prelude.{ℕ, suc, ◌≤◌, List, [], ◌∷◌, ◌++◌, take, drop, set, ◌≤ℤ◌, slice_index_or, slice_set}
+use Rattle.std.specs.Prelude.{ℕ, suc, ◌≤◌, List, [], ◌∷◌, ◌++◌, take, drop, ◌≤ℤ◌, slice_index_or, slice_set}
 use Rattle.needs.specs.Levels.{Need}
 use Rattle.weights.specs.Chances.{weight, Falling, trimmed}
 use Rattle.totals.specs.Choices.{Setting, setting}

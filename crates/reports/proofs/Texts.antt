@@ -1,5 +1,5 @@
 -- One line or coefficient more. Assumes nothing.
-use Rattle.std.proofs.Common.{◌≡◌, ℕ, ◌+◌, List, ◌++◌, ℤ, codes, sym, refl, ap, ◌∙◌, append_assoc, add-one}
+use Rattle.std.proofs.Common.{◌≡◌, ℕ, ◌+◌, List, ◌++◌, ℤ, codes, sym, ap, ◌∙◌, append_assoc, add-one}
 use Rattle.std.specs.Fmt.{signed_decimal}
 use Rattle.brackets.specs.declared.ends.Ends.{Ends}
 use Rattle.reports.specs.Lines.{depth_line, depth_lines, coefficients}

@@ -5,7 +5,7 @@
 -- poly line  the coefficients of the polynomial total, from the power 0 up
 -- states     the number of states in which a warning arrives
 -- fault      number, layer, record and byte
-use Rattle.std.specs.Prelude.{ℕ, zero, suc, ◌+◌, ◌*◌, max, List, [], ◌∷◌, ◌++◌, map, length, ℤ, codes, decimal}
+use Rattle.std.specs.Prelude.{ℕ, zero, suc, ◌+◌, ◌*◌, max, List, [], ◌∷◌, ◌++◌, length, ℤ, codes, decimal}
 use Rattle.std.specs.Fmt.{signed_decimal}
 use Rattle.needs.specs.Levels.{Need}
 use Rattle.algebras.specs.Residues as residues

@@ -2,7 +2,7 @@
 --
 -- longest    a report takes files of at most 4096 bytes; a longer one is refused unread
 -- kind       a file whose byte 2 is 2 is read as graded, any other as plain
-use Rattle.std.specs.Prelude.{◌≡◌, ℕ, ◌<◌, ◌≤◌, List, [], ◌∷◌, ◌++◌, length, replicate, codes, decimal, ◌≢◌, slice_index}
+use Rattle.std.specs.Prelude.{◌≡◌, ℕ, ◌<◌, ◌≤◌, List, ◌++◌, length, replicate, codes, decimal, ◌≢◌, slice_index}
 use Rattle.needs.specs.Levels.{digit}
 use Rattle.sheets.specs.Standings.{Standing}
 use Rattle.sheets.specs.Refusals.{number}

@@ -1,5 +1,5 @@
 -- How far a file has been read: a front, and the bytes behind it. Assumes nothing.
-use Rattle.std.proofs.Common.{◌≡◌, ℕ, ◌+◌, ◌-◌, ◌<◌, ◌≤◌, List, ◌++◌, length, sym, refl, ap, ◌∙◌, subst, append_assoc, arith, length-append}
+use Rattle.std.proofs.Common.{◌≡◌, ℕ, ◌+◌, ◌-◌, ◌≤◌, List, ◌++◌, length, sym, ap, ◌∙◌, subst, append_assoc, arith, length-append}
 use Rattle.sheets.specs.Standings.{Standing}
 use Rattle.sheet_file.specs.declared.fault.Fault.{Fault}
 use Rattle.sheet_file.specs.Faults.{Faulty}

@@ -2,7 +2,7 @@
 --
 -- fault      the refusal, the record at fault counted from 0, and the byte where that record begins or should begin
 use Rattle.std.specs.Prelude.{◌≡◌, ℕ, ◌+◌, ◌<◌, List, ◌++◌, length, codes}
-use Rattle.sheets.specs.Standings.{Standing, opened}
+use Rattle.sheets.specs.Standings.{Standing}
 use Rattle.sheets.specs.Refusals.{number, place}
 use Rattle.sheet_file.specs.Layout.{Form}
 use Rattle.sheet_file.specs.Reading.{Front, WrongHead, WrongRecord}

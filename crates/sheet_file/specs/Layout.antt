@@ -6,7 +6,7 @@
 -- en         the end
 -- form       how a kind of need is filed: its number, the top level, the bytes of a need and the need that they code
 -- big_endian the number that bytes write, the greatest first
-use Rattle.std.specs.Prelude.{◌≡◌, ℕ, ◌+◌, ◌-◌, ◌*◌, List, [], ◌∷◌, ◌++◌, length, replicate, codes}
+use Rattle.std.specs.Prelude.{◌≡◌, ℕ, ◌-◌, ◌*◌, List, [], ◌∷◌, ◌++◌, length, replicate, codes}
 use Rattle.std.specs.Int.Digits.{number_from_digits}
 use Rattle.needs.specs.Levels.{Need}
 

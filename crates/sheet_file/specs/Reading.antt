@@ -3,12 +3,12 @@
 -- front      whole records from the start of the file, all accepted, with the threshold, the standing and the storage they lead to
 -- rest       the bytes behind a front
 -- head       the ts record, which opens a file; what may be wrong with it is looked at in the order of the cases
-use Rattle.std.specs.Prelude.{◌≡◌, ℕ, ◌+◌, ◌*◌, ◌<◌, ◌≤◌, List, [], ◌∷◌, ◌++◌, map, length, take, None, codes, Option, ◌≢◌, slice_set}
+use Rattle.std.specs.Prelude.{◌≡◌, ℕ, ◌+◌, ◌*◌, ◌<◌, ◌≤◌, List, ◌++◌, map, length, take, None, codes, Option, ◌≢◌, slice_set}
 use Rattle.sheets.specs.Standings.{Standing, capacity, opened, sized, weighted, fitted}
 use Rattle.sheets.specs.Causes.{Call, causes, Accepted, First, Outside, ToldPlace}
 use Rattle.sheets.specs.Causes.Call.{set as set_call, fit as fit_call}
-use Rattle.sheet_file.specs.Layout.{Form, Record, Spells}
-use Rattle.sheet_file.specs.Layout.Record.{ts, wt, nd, en}
+use Rattle.sheet_file.specs.Layout.{Form, Spells}
+use Rattle.sheet_file.specs.Layout.Record.{ts, wt, nd}
 
 module _ {K : Type 0} (f : Form K) where
   -- the causes of a call's refusal, by what a front leads to

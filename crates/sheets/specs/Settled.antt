@@ -5,7 +5,7 @@
 -- asking     every held need asks something
 -- spare      the rows of components that the sheet has not are blank
 -- neat       no weight is noted above the top level
-use Rattle.std.specs.Prelude.{◌≡◌, ℕ, ◌<◌, ◌≤◌, List, [], map, length, replicate, slice_index_or}
+use Rattle.std.specs.Prelude.{◌≡◌, ℕ, ◌<◌, ◌≤◌, [], map, length, replicate, slice_index_or}
 use Rattle.needs.specs.Levels.{Need, Covers}
 use Rattle.weights.specs.Chances.{trimmed}
 use Rattle.sheets.specs.Standings.{Standing}

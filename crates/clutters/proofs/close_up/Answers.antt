@@ -1,4 +1,4 @@
-use Rattle.std.proofs.Common.{◌≡◌, ◌-◌, ◌≤◌, length, ◌∙◌, arith}
+use Rattle.std.proofs.Common.{◌∙◌, arith}
 use Rattle.clutters.proofs.Closing.{moved_none, moved_more, moved_all}
 use Rattle.clutters.proofs.close_up.Goals as goal
 

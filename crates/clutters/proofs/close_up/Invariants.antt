@@ -1,4 +1,4 @@
-use Rattle.std.proofs.Common.{◌≡◌, suc, ◌-◌, ◌≤◌, drop}
+use Rattle.std.proofs.Common.{◌≡◌, suc, ◌-◌, drop}
 use lib.Seq.{paste}
 use Rattle.clutters.proofs.close_up.Given as goal
 

@@ -1,4 +1,4 @@
-use Rattle.std.proofs.Common.{◌<◌, ◌≤◌, map, length, arith}
+use Rattle.std.proofs.Common.{◌≤◌, length, arith}
 use Rattle.needs.specs.Levels.{Same}
 use Rattle.clutters.proofs.Places.{passed_more, lowest_here, passed_all}
 use Rattle.clutters.proofs.same_place.Goals as goal

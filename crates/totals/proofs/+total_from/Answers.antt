@@ -1,9 +1,9 @@
-use Rattle.std.proofs.Common.{◌≡◌, suc, ◌-◌, List, [], ◌∷◌, map, length, sym, ap, ◌∙◌, subst, arith, rules}
+use Rattle.std.proofs.Common.{◌≡◌, suc, ◌-◌, ◌∷◌, map, length, sym, ap, ◌∙◌, rules}
 use mathlib.Core.Path.{fun_ext}
 use Rattle.std.specs.List.{between}
 use Rattle.std.proofs.lemmas.List.{nil_from_length}
 use Rattle.std.proofs.lemmas.Slice.{first_rest}
-use Rattle.needs.specs.Levels.{Need, join}
+use Rattle.needs.specs.Levels.{join}
 use Rattle.totals.specs.Choices.{setting, weight}
 use Rattle.totals.specs.Joins.{begun, total_from}
 use Rattle.totals.proofs.Sums.{total_none, total_more}

@@ -1,4 +1,4 @@
-use Rattle.std.proofs.Common.{◌≡◌, ℕ, List, map, get_or, set, replicate, sym, ap, ◌∙◌, set-set}
+use Rattle.std.proofs.Common.{◌≡◌, ℕ, List, map, get_or, set, replicate, ap, ◌∙◌, set-set}
 use lib.Seq.{set-get_or}
 use Rattle.totals.specs.Choices.{setting}
 use Rattle.brackets.specs.Brackets.{ends}

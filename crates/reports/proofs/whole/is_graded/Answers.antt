@@ -1,4 +1,4 @@
-use Rattle.std.proofs.Common.{◌≡◌, ℕ, true, false, get_or, arith}
+use Rattle.std.proofs.Common.{◌≡◌, ℕ, get_or, arith}
 use Rattle.std.proofs.lemmas.List.{get_or_past}
 use Rattle.reports.proofs.whole.is_graded.Goals as goal
 

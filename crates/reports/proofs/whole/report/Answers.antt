@@ -1,4 +1,4 @@
-use Rattle.std.proofs.Common.{◌≡◌, ℕ, ◌≤◌, List, length, get_or, replicate, string_bytes, codes, arith}
+use Rattle.std.proofs.Common.{◌≡◌, ◌≤◌, length, get_or, replicate, string_bytes, codes, arith}
 use Rattle.std.proofs.lemmas.Result.{IfOk-weaker}
 use Rattle.std.proofs.lemmas.Bool.Decides.{not_from_Decides}
 use Rattle.reports.specs.Reported.{Reported, ReportedAs, plain, graded}

@@ -1,4 +1,4 @@
-use Rattle.std.proofs.Common.{◌≡◌, ℕ, List, [], ◌++◌, string_bytes, sym, ap, ◌∙◌, subst}
+use Rattle.std.proofs.Common.{◌≡◌, ℕ, List, ◌++◌, string_bytes, ap, ◌∙◌, subst}
 use Rattle.sheets.specs.Refusals.{number}
 use Rattle.sheets.specs.Standings.{Standing}
 use Rattle.sheets.specs.Sheets.{bay_standing, bay_storage, road_standing}

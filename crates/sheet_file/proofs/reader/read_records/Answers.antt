@@ -1,4 +1,4 @@
-use Rattle.std.proofs.Common.{◌≡◌, ◌+◌, ◌-◌, ◌<◌, List, [], ◌∷◌, ◌++◌, length, codes, sym, refl, ap, ◌∙◌, subst, arith, length-append, rules}
+use Rattle.std.proofs.Common.{◌≡◌, ◌+◌, ◌-◌, ◌<◌, List, ◌++◌, length, codes, sym, refl, ap, ◌∙◌, subst, arith, length-append, rules}
 use Rattle.std.specs.List.{between}
 use Rattle.std.proofs.lemmas.List.{nil_from_length}
 use Rattle.sheets.specs.declared.refusal.Refusal.TheVariants.{TrailingBytes}
@@ -10,7 +10,7 @@ use Rattle.sheet_file.specs.Faults.{Faulty, Read}
 use Rattle.sheet_file.specs.Faults.Faulty.{at_head, at_record, behind_end}
 use Rattle.sheet_file.specs.Faults.Read.{whole}
 use Rattle.sheet_file.proofs.Fronts.{marked}
-use Rattle.sheet_file.proofs.Reached.{Reached, reached_byte, reached_more, reached_few, faulty_from}
+use Rattle.sheet_file.proofs.Reached.{reached_byte, reached_more, reached_few, faulty_from}
 use Rattle.sheet_file.proofs.reader.read_records.Goals as goal
 
 pub returns-in-Err : goal.returns-in-Err

@@ -1,4 +1,4 @@
-use Rattle.std.proofs.Common.{◌≡◌, ℕ, suc, ◌<◌, map, length, get_or, ap, ◌∙◌, arith, rules}
+use Rattle.std.proofs.Common.{ℕ, suc, map, get_or, ap, ◌∙◌, rules}
 use Rattle.totals.specs.Choices.{setting, sum}
 use Rattle.totals.specs.Joins.{sum_from}
 use Rattle.totals.proofs.Groups.{zero_plus, alternating_same}

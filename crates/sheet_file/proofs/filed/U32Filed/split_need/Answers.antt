@@ -1,4 +1,4 @@
-use Rattle.std.proofs.Common.{◌≡◌, [], ◌∷◌, refl, arith, rules}
+use Rattle.std.proofs.Common.{refl, arith, rules}
 use Rattle.sheet_file.proofs.Fronts.{elements, first_elements}
 use Rattle.sheet_file.proofs.filed.U32Filed.split_need.Goals as goal
 

@@ -1,4 +1,4 @@
-use Rattle.std.proofs.Common.{◌≡◌, ℕ, [], ◌∷◌, refl, arith, rules}
+use Rattle.std.proofs.Common.{◌≡◌, ℕ, refl, arith, rules}
 use Rattle.sheet_file.specs.Layout.{big_endian}
 use Rattle.sheet_file.proofs.Fronts.{elements, first_elements}
 use Rattle.sheet_file.proofs.filed.U32Filed.split_weights.Goals as goal

@@ -1,4 +1,4 @@
-use Rattle.std.proofs.Common.{◌≡◌, ℕ, cond, ◌∷◌, map, length, take, set, is_ok, sym, ap, ◌∙◌, subst, MatchResult}
+use Rattle.std.proofs.Common.{◌≡◌, ℕ, cond, ◌∷◌, map, take, set, is_ok, sym, ap, ◌∙◌, subst, MatchResult}
 use Rattle.std.proofs.lemmas.List.{length-take-le}
 use Rattle.std.proofs.lemmas.Bool.Decides.{not_from_Decides}
 use Rattle.sheets.specs.Causes.{AsksFrom, clutter_causes, causes, ToldPlace}
