@@ -5,7 +5,7 @@
 -- sheet N    a plain sheet as opened, with no need
 -- holds      a figure is what the definitions give
 use Rattle.std.specs.Prelude.{◌≡◌, ℕ, zero, suc, ◌*◌, ◌^◌, List, [], ◌∷◌, ◌++◌, replicate, ℤ, pos, negsuc}
-use Rattle.std.specs.List.{AllByRecursion as All}
+use Rattle.std.specs.List.{AllByRecursion}
 use Rattle.needs.specs.Levels.{Need, digit}
 use Rattle.algebras.specs.Residues.{signed}
 use Rattle.algebras.specs.Models.{fixed_model, polynomial_model, count_model}
@@ -92,4 +92,4 @@ figures =
     ∷ []
 
 abbrev pub FiguresHold : Type 0
-FiguresHold = All Holds figures
+FiguresHold = AllByRecursion Holds figures

@@ -9,7 +9,7 @@
 -- count      how often a total counts a state: never if it meets no need, else 1 - (-1)^depth * B(k - 1, depth) times for k needs met
 -- times      a value added up as often as a number says, subtracted where the number is negative
 use Rattle.std.specs.Prelude.{◌≡◌, ℕ, zero, suc, ◌+◌, ◌%◌, ◌≤◌, Bool, true, cond, ◌&&◌, List, [], ◌∷◌, ◌++◌, map, ℤ, pos, negsuc, ◌+ℤ◌, ◌-ℤ◌, ◌==◌, nat_le, nat_lt}
-use Rattle.std.specs.List.{AllByRecursion as All}
+use Rattle.std.specs.List.{AllByRecursion}
 use Rattle.needs.specs.Levels.{Need}
 use Rattle.weights.specs.Chances.{chance}
 use Rattle.algebras.specs.Model.{Model}
@@ -82,7 +82,7 @@ module _ (m : Model) (s : Setting) where
 
 -- no need asks for a level above the top
 abbrev pub Within : (top : ℕ) → List Need → Type 0
-Within top = All (λ d. (i : ℕ) → d i ≤ top)
+Within top = AllByRecursion (λ d. (i : ℕ) → d i ≤ top)
 
 abbrev pub TotalsCountStates : Model → Type 0
 TotalsCountStates m = (s : Setting) (ds : List Need) (depth : ℕ) → Within s.top ds → total m s depth ds ≡ counted_total m s depth ds
