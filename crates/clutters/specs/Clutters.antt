@@ -1,18 +1,10 @@
--- Needs that stand one after another, and how a new one compares with them.
+-- Needs that stand one after another.
 --
--- comparable two needs of which one covers the other
 -- lowest     the first place where something is so
 -- closed up  a row without the one in a place: those behind it move down by one, and the last place keeps what it holds
-use Rattle.std.specs.Prelude.{ℕ, ◌-◌, ◌<◌, ◌≤◌, cond, ◌⊎◌, List, ◌++◌, length, drop, nat_lt, slice_index_or}
+use Rattle.std.specs.Prelude.{ℕ, ◌-◌, ◌<◌, cond, List, ◌++◌, length, drop, nat_lt, slice_index_or}
 use Rattle.std.specs.List.{remove}
-use Rattle.needs.specs.Levels.{Need, Covers, Same, width}
-
-abbrev pub Comparable : Need → Need → Type 0
-Comparable d e = Covers d e ⊎ Covers e d
-
--- the need asks for a level above 0 from component n on
-abbrev pub AsksFrom : ℕ → Need → Type 0
-AsksFrom n d = (i : ℕ) × (n ≤ i) × (i < width) × (0 < d i)
+use Rattle.needs.specs.Levels.{Need, Same}
 
 -- the need in a place, where one stands, is so
 abbrev pub At : (Need → Type 0) → List Need → ℕ → Type 0
@@ -20,9 +12,6 @@ At So ds p = (p < length ds) × So (slice_index_or ds p (λ i. 0))
 
 abbrev pub Lowest : (ℕ → Type 0) → ℕ → Type 0
 Lowest So p = So p × ((q : ℕ) → q < p → So q → ⊥)
-
-abbrev pub ComparableAt : List Need → Need → ℕ → Type 0
-ComparableAt ds d = At (Comparable d) ds
 
 abbrev pub SameAt : List Need → Need → ℕ → Type 0
 SameAt ds d = At (Same d) ds

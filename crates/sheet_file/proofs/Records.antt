@@ -2,7 +2,7 @@
 use Rattle.std.proofs.Common.{◌≡◌, ℕ, ◌+◌, ◌*◌, ◌<◌, ◌≤◌, List, [], ◌∷◌, ◌++◌, map, length, get_or, take, drop, set, None, codes, Option, sym, refl, ap, ◌∙◌, subst, inl, inr, append_assoc, arith, length-append, take-append-drop}
 use Rattle.std.specs.List.{between}
 use Rattle.sheets.specs.declared.refusal.Refusal.{Refusal}
-use Rattle.sheets.specs.declared.refusal.Refusal.TheVariants.{UnknownComponent, RisingWeights, EmptyNeed, Comparable, Full, BadDepth, BadThreshold, BadSize, NeedsHeld, WrongMark, Truncated, TrailingBytes}
+use Rattle.sheets.specs.declared.refusal.Refusal.TheVariants.{UnknownComponent, RisingWeights, BadReading, EmptyNeed, Comparable, Full, NotHeld, BadDepth, BadThreshold, BadSize, NeedsHeld, WrongMark, Truncated, TrailingBytes}
 use Rattle.sheets.specs.Refusals.{number, place}
 use Rattle.sheets.specs.Standings.{Standing, fitted, weighted}
 use Rattle.sheets.specs.Causes.{Accepted, First, ToldPlace}
@@ -81,9 +81,11 @@ leads f front e h = rw (e, h) front
 no_place : (e : Refusal) → (number e ≡ 5 → ⊥) → place e ≡ None
 no_place UnknownComponent h = refl
 no_place RisingWeights h = refl
+no_place BadReading h = refl
 no_place EmptyNeed h = refl
 no_place (Comparable p) h = absurd (h refl)
 no_place Full h = refl
+no_place NotHeld h = refl
 no_place BadDepth h = refl
 no_place BadThreshold h = refl
 no_place BadSize h = refl

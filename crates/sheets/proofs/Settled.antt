@@ -1,17 +1,20 @@
--- A settled standing stays settled over an accepted fit and set, and so over any outcome of the two. Assumes nothing.
-use Rattle.std.proofs.Common.{◌≡◌, ℕ, zero, suc, ◌<◌, ◌≤◌, cond, ◌⊎◌, List, [], ◌∷◌, ◌++◌, map, length, get_or, is_ok, Ok, Err, Result, sym, refl, ap, ◌∙◌, subst, inl, inr, ⊎_elim, arith, length-append}
+-- A settled standing stays settled over an accepted fit, strike and set. Assumes nothing.
+use Rattle.std.proofs.Common.{◌≡◌, ℕ, zero, suc, ◌+◌, ◌<◌, ◌≤◌, cond, ltb, ◌⊎◌, List, [], ◌∷◌, ◌++◌, map, length, get_or, sym, refl, ap, ◌∙◌, subst, inl, inr, ⊎_elim, arith, length-append}
+use Rattle.std.specs.List.{remove}
+use Rattle.std.proofs.lemmas.List.Edits.{length-remove, get_or-remove_below, get_or-remove_above}
 use lib.ListN.{length-map}
 use Rattle.std.proofs.lemmas.List.{map-append, get_or_append_left, get_or_push, get_or-set_other}
-use Rattle.std.proofs.lemmas.Bool.{cases_lt, cases_eq}
+use Rattle.std.proofs.lemmas.Bool.{cases_lt, cases_eq, cond_both, ltb-true, ltb-false}
+use Rattle.std.proofs.lemmas.Bool.Decides.{nat_tests}
+use Rattle.sheets.proofs.Struck.{map_one_less}
 use Rattle.needs.specs.Levels.{Need, Covers, width}
 use Rattle.weights.specs.Chances.{trimmed}
-use Rattle.weights.proofs.Rows.{set_row as row_set}
-use Rattle.sheets.specs.declared.refusal.Refusal.{Refusal}
-use Rattle.sheets.specs.Standings.{Standing, fitted, weighted}
-use Rattle.sheets.specs.Causes.{AsksFrom, Accepted, causes}
-use Rattle.sheets.specs.Causes.Call.{set as set_row, fit}
+use Rattle.weights.proofs.Rows.{set_row as row_set, trimmed_trimmed}
+use Rattle.sheets.specs.Standings.{Standing, fitted, struck, weighted}
+use Rattle.sheets.specs.Causes.{AsksFrom}
+use Rattle.sheets.specs.Causes.{Accepted, causes}
+use Rattle.sheets.specs.Causes.Call.{set as set_row, fit, strike}
 use Rattle.sheets.specs.Settled.{Settled}
-use Rattle.sheets.specs.Sheets.{Outcome}
 
 -- the components are few, so a need that cannot ask nothing asks something
 asks_below : (d : Need) (n : ℕ) → n ≤ width → AsksFrom 0 d ⊎ ((i : ℕ) → i < n → 0 < d i → ⊥)
@@ -27,11 +30,6 @@ asks d some = ⊎_elim (λ found. found) (λ none. absurd (some (λ at. none at.
 
 covers_like : {d d' e e' : Need} → d ≡ d' → e ≡ e' → Covers d e → Covers d' e'
 covers_like {d} {e'} same same' covers = subst (λ x. Covers x e') same (subst (Covers d) same' covers)
-
-trimmed_trimmed : (top : ℕ) (row : List ℕ) → trimmed top (trimmed top row) ≡ trimmed top row
-trimmed_trimmed top [] = refl
-trimmed_trimmed zero (w ∷ row) = ap (λ rest. 0 ∷ rest) (trimmed_trimmed zero row)
-trimmed_trimmed (suc top) (w ∷ row) = ap (λ rest. w ∷ rest) (trimmed_trimmed top row)
 
 module _ {K : Type 0} (levels : K → Need) (top : ℕ) where
   abbrev need_of : List K → ℕ → Need
@@ -78,6 +76,30 @@ module _ {K : Type 0} (levels : K → Need) (top : ℕ) where
         neat = settled.neat;
       }
 
+  -- the place that a need stood in before a strike
+  abbrev earlier : (struck place : ℕ) → ℕ
+  earlier p q = cond (ltb q p) q (q + 1)
+
+  kept : (xs : List K) (p q : ℕ) → p < length xs → q < length (remove xs p) → (earlier p q < length xs) × (need_of (remove xs p) q ≡ need_of xs (earlier p q))
+  kept xs p q h k =
+      let old = length-map xs levels in
+      let less = length-remove xs p h in
+      let needs = ap (λ ds. get_or ds q (λ i. 0)) (map_one_less levels xs p) in
+      cond_both (ltb q p) q (q + 1) (λ e. (e < length xs) × (need_of (remove xs p) q ≡ need_of xs e))
+      (λ is. let lt = ltb-true q p is in (omega arith, needs ∙ get_or-remove_below (map levels xs) p (λ i. 0) q lt (omega arith)))
+      (λ is. let ge = ltb-false q p is in (omega arith, needs ∙ get_or-remove_above (map levels xs) p (λ i. 0) q ge (omega arith)))
+
+  pub struck_settled : (capacity : ℕ) (s : Standing K) (p : ℕ) → Accepted (causes levels top capacity s (strike p)) → Settled levels top s → Settled levels top (struck p s)
+  struck_settled capacity s p (held, none) settled =
+      let at : (q : ℕ) → q < length (remove s.needs p) → _ = λ q. kept s.needs p q (omega arith) in
+      record {
+        clutter = λ q q' h k covers. let same = settled.clutter (earlier p q) (earlier p q') (at q h).0 (at q' k).0 (covers_like (at q h).1 (at q' k).1 covers) in grind (arith, nat_tests);
+        known = λ q h from. settled.known (earlier p q) (at q h).0 (subst (AsksFrom s.components) (at q h).1 from);
+        asking = λ q h. subst (AsksFrom 0) (sym (at q h).1) (settled.asking (earlier p q) (at q h).0);
+        spare = settled.spare;
+        neat = settled.neat;
+      }
+
   pub weighted_settled : (capacity : ℕ) (s : Standing K) (i : ℕ) (row : List ℕ) → Accepted (causes levels top capacity s (set_row i row)) → Settled levels top s → Settled levels top (weighted top i row s)
   weighted_settled capacity s i row (has, falls) settled =
       record {
@@ -87,9 +109,3 @@ module _ {K : Type 0} (levels : K → Need) (top : ℕ) where
         spare = λ j from h. get_or-set_other s.card i j (trimmed top row) [] (λ same. has (omega arith)) ∙ settled.spare j from h;
         neat = λ j h. row_set (λ k r. trimmed top r ≡ r) s.card i (trimmed top row) j (trimmed_trimmed top row) (settled.neat j h);
       }
-
-  -- a call that is accepted or changes nothing
-  pub kept_settled : {T : Type 0} (r : Result T Refusal) (cs : List (ℕ × Type 0)) (before next after : Standing K) → Outcome r cs → after ≡ cond (is_ok r) next before
-      → (Accepted cs → Settled levels top before → Settled levels top next) → Settled levels top before → Settled levels top after
-  kept_settled (Ok x) cs before next after accepted is step settled = subst (Settled levels top) (sym is) (step accepted settled)
-  kept_settled (Err e) cs before next after refused is step settled = subst (Settled levels top) (sym is) settled

@@ -3,8 +3,10 @@
 -- total          in any algebra, to a depth
 -- ends           the exact ends of the bracket at a depth
 -- reliability    how likely a warning is to arrive
-use Rattle.std.specs.Prelude.{ℕ, List, map, ℤ}
+-- found          the lowest place of a held need that is the same as a given one; nothing where there is none
+use Rattle.std.specs.Prelude.{ℕ, List, map, ℤ, Option, MatchOption}
 use Rattle.needs.specs.Levels.{Need}
+use Rattle.clutters.specs.Clutters.{SameAt, Lowest}
 use Rattle.algebras.specs.Model.{Model}
 use Rattle.totals.specs.Choices.{Setting, setting, total}
 use Rattle.inclusion_exclusion.specs.States.{counted_total}
@@ -32,3 +34,6 @@ module _ {K : Type 0} (levels : K → Need) (top : ℕ) (s : Standing K) where
 
   abbrev pub reliability_of : ℤ
   reliability_of = reliability setting_of needs_of
+
+  abbrev pub Found : K → Option ℕ → Type 0
+  Found d answer = MatchOption answer ((p : ℕ) → SameAt needs_of (levels d) p → ⊥) (Lowest (SameAt needs_of (levels d)))

@@ -4,10 +4,12 @@
 -- accepted   a call for which no cause holds
 -- first      the number of the first cause that holds
 -- comparable two needs of which one covers the other
-use Rattle.std.specs.Prelude.{◌≡◌, ℕ, ◌<◌, ◌≤◌, ◌⊎◌, List, [], ◌∷◌, map, length, Some, None, Option, slice_index_or}
+use Rattle.std.specs.Prelude.{◌≡◌, ℕ, ◌<◌, ◌≤◌, ◌⊎◌, List, [], ◌∷◌, map, length, Some, None, Option, slice_index_or, Float}
 use Rattle.needs.specs.Levels.{Need, Covers, width}
 use Rattle.weights.specs.Chances.{Falling}
+use Rattle.readings.specs.Readings.{AreChances, sixty_fourths}
 use Rattle.sheets.specs.Standings.{Standing}
+use Rattle.sheets.specs.declared.supposed.Supposed.{Supposed}
 
 pub data Call (K : Type 0) : Type 0 where
   size : ℕ → Call K
@@ -16,6 +18,11 @@ pub data Call (K : Type 0) : Type 0 where
   total : (depth : ℕ) → Call K
   bracket : (depth : ℕ) → Call K
   judge : (depth threshold : ℕ) → Call K
+  set_by_readings : (component : ℕ) → (readings : List Float) → Call K
+  strike : (place : ℕ) → Call K
+  try_with : (component : ℕ) → Supposed → (depth : ℕ) → Call K
+  find : K → Call K
+  put_out call_in : Call K
 
 abbrev pub Comparable : Need → Need → Type 0
 Comparable d e = Covers d e ⊎ Covers e d
@@ -52,6 +59,12 @@ module _ {K : Type 0} (levels : K → Need) (top capacity : ℕ) (s : Standing K
   causes (total r) = (8, Outside 1 12 r) ∷ []
   causes (bracket r) = (8, Outside 1 12 r) ∷ []
   causes (judge r t) = (8, Outside 1 12 r) ∷ (9, 32768 < t) ∷ []
+  causes (set_by_readings i ps) = (1, s.components ≤ i) ∷ (3, AreChances top ps → ⊥) ∷ (2, Falling top (map sixty_fourths ps) → ⊥) ∷ []
+  causes (strike p) = (7, length s.needs ≤ p) ∷ []
+  causes (try_with i what r) = (1, s.components ≤ i) ∷ (8, Outside 1 12 r) ∷ []
+  causes (find d) = []
+  causes put_out = []
+  causes call_in = []
 
 abbrev pub Accepted : List (ℕ × Type 0) → Type 0
 Accepted [] = Unit {0}

@@ -4,3 +4,4 @@ pub mod Refusals
 pub mod Sheets
 pub mod Answers
 pub mod Settled
+pub mod Tries

@@ -3,8 +3,8 @@
 -- standing   the held needs by place, the number of components, and the card of chances
 -- capacity   how many needs a sheet may hold: as many as places are supplied, at most 12
 -- blank      a card without any chance above level 0
-use Rattle.std.specs.Prelude.{ℕ, min, List, [], length, replicate}
-use Rattle.inclusion_exclusion.specs.Changes.{one_more, rewritten}
+use Rattle.std.specs.Prelude.{ℕ, ◌-◌, min, List, [], ◌++◌, length, take, drop, replicate}
+use Rattle.inclusion_exclusion.specs.Changes.{one_more, one_less, rewritten}
 
 pub record Standing (K : Type 0) : Type 0 where
   pub needs : List K
@@ -26,6 +26,13 @@ module _ {K : Type 0} where
 
   abbrev pub fitted : K → Standing K → Standing K
   fitted d s = record { needs = one_more s.needs d; components = s.components; card = s.card }
+
+  abbrev pub struck : (place : ℕ) → Standing K → Standing K
+  struck p s = record { needs = one_less s.needs p; components = s.components; card = s.card }
+
+  -- storage after a strike, with so many needs held: the place that falls free, and all behind it, hold what they held
+  abbrev pub struck_storage : (held place : ℕ) → List K → List K
+  struck_storage held p storage = one_less (take held storage) p ++ drop (held - 1) storage
 
   -- a new row for one component; its weights above the top level are noted as 0
   abbrev pub weighted : (top component : ℕ) → List ℕ → Standing K → Standing K

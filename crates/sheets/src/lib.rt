@@ -5,7 +5,9 @@ mod bay;
 mod clutter;
 mod refusal;
 mod road;
+mod supposed;
 
 pub use bay::BaySheet;
 pub use refusal::Refusal;
 pub use road::RoadSheet;
+pub use supposed::Supposed;

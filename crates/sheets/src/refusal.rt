@@ -4,10 +4,12 @@
 pub enum Refusal {
     UnknownComponent,
     RisingWeights,
+    BadReading,
     EmptyNeed,
     // with the lowest place whose need covers the new one or is covered by it
     Comparable(usize),
     Full,
+    NotHeld,
     BadDepth,
     BadThreshold,
     BadSize,

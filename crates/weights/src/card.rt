@@ -5,7 +5,7 @@ use crate::{COMPONENTS, LEVELS, Row, Rows};
 
 #[derive(Clone, Copy)]
 pub struct Card {
-    rows: Rows,
+    pub rows: Rows,
 }
 
 impl Card {

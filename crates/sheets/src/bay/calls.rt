@@ -1,9 +1,10 @@
 // The calls that a sheet takes in the bay.
-ghost use Rattle.std.specs.Prelude.{◌≡◌, [], map, length, ◌≤ℤ◌, is_ok, if◌then◌else◌, Decides, MatchResult, slice_index_or, slice_set};
+ghost use Rattle.std.specs.Prelude.{◌≡◌, [], map, length, ◌≤ℤ◌, is_ok, IfOk, if◌then◌else◌, Decides, MatchResult, slice_index_or, slice_set};
+ghost use Rattle.readings.specs.Readings.{sixty_fourths};
 ghost use Rattle.inclusion_exclusion.specs.Changes.{Raises, Lowers};
-ghost use Rattle.sheets.specs.Standings.{opened, sized, fitted, weighted};
+ghost use Rattle.sheets.specs.Standings.{opened, sized, fitted, struck, struck_storage, weighted};
 ghost use Rattle.sheets.specs.Causes.{AsksFrom, ToldPlace};
-ghost use Rattle.sheets.specs.Causes.Call.{size as size_call, set as set_call, fit as fit_call};
+ghost use Rattle.sheets.specs.Causes.Call.{size as size_call, set as set_call, set_by_readings as readings_call, fit as fit_call, strike as strike_call};
 ghost use Rattle.sheets.specs.Refusals.{place as place_of};
 ghost use Rattle.sheets.specs.Settled.{Settled};
 ghost use Rattle.sheets.specs.Sheets.{bay_standing, bay_storage, bay_causes, bay_reliability, road_standing, road_storage, Outcome};
@@ -13,6 +14,7 @@ use crate::clutter::Clutter;
 use crate::refusal::Refusal;
 use crate::road::RoadSheet;
 use needs::{Kind, WIDTH};
+use readings::{Readings, row_of};
 use weights::{COMPONENTS, Card, Row, falls, trimmed};
 
 // Whether a need asks for a level above 0 from a component on.
@@ -89,6 +91,24 @@ impl<'a, K: Kind> BaySheet<'a, K> {
         Ok(())
     }
 
+    // Replaces all weights of a component by those of its readings; what these have above the top level is not read.
+    pub fn set_by_readings(&mut self, component: usize, readings: Readings) -> Result<(), Refusal>
+        ensures refused { Outcome result (bay_causes K.Kind self.old (readings_call component readings)) }
+        ensures standing { bay_standing self.new ≡ (if is_ok result then weighted K.Kind.top component (map sixty_fourths readings) (bay_standing self.old) else bay_standing self.old) }
+        ensures storage { bay_storage self.new ≡ bay_storage self.old }
+        ensures settled { Settled K.Kind.levels K.Kind.top (bay_standing self.old) → Settled K.Kind.levels K.Kind.top (bay_standing self.new) }
+        ensures raising { Raises K.Kind.top (slice_index_or (bay_standing self.old).card component []) (map sixty_fourths readings) → bay_reliability K.Kind self.old ≤ℤ bay_reliability K.Kind self.new }
+        ensures lowering { Lowers K.Kind.top (slice_index_or (bay_standing self.old).card component []) (map sixty_fourths readings) → bay_reliability K.Kind self.new ≤ℤ bay_reliability K.Kind self.old }
+    {
+        if self.components <= component {
+            return Err(Refusal::UnknownComponent);
+        }
+        let Some(row) = row_of(&readings, K::top_level()) else {
+            return Err(Refusal::BadReading);
+        };
+        self.set(component, row)
+    }
+
     // Adds a need in the next place, and answers the place.
     pub fn fit(&mut self, need: K) -> Result<usize, Refusal>
         ensures refused { Outcome result (bay_causes K.Kind self.old (fit_call need)) }
@@ -105,6 +125,18 @@ impl<'a, K: Kind> BaySheet<'a, K> {
             return Err(Refusal::EmptyNeed);
         }
         self.needs.fit(need)
+    }
+
+    // Takes out the need in a place, moves the later ones down by one, and answers the need.
+    pub fn strike(&mut self, place: usize) -> Result<K, Refusal>
+        ensures refused { Outcome result (bay_causes K.Kind self.old (strike_call place)) }
+        ensures answer { IfOk result (λ d. d ≡ slice_index_or (bay_standing self.old).needs place d) }
+        ensures standing { bay_standing self.new ≡ (if is_ok result then struck place (bay_standing self.old) else bay_standing self.old) }
+        ensures storage { bay_storage self.new ≡ (if is_ok result then struck_storage (length (bay_standing self.old).needs) place (bay_storage self.old) else bay_storage self.old) }
+        ensures settled { Settled K.Kind.levels K.Kind.top (bay_standing self.old) → Settled K.Kind.levels K.Kind.top (bay_standing self.new) }
+        ensures never_raises { bay_reliability K.Kind self.new ≤ℤ bay_reliability K.Kind self.old }
+    {
+        self.needs.strike(place)
     }
 
     // Moves the sheet onto the road.

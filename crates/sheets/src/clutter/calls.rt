@@ -1,12 +1,13 @@
 // What is done with a clutter. Its sheet keeps the two facts that these calls ask for.
-ghost use Rattle.std.specs.Prelude.{◌≡◌, ℕ, ◌+◌, ◌≤◌, [], map, length, is_ok, if◌then◌else◌, Decides, MatchOption, MatchResult, slice_set};
+ghost use Rattle.std.specs.Prelude.{◌≡◌, ℕ, ◌+◌, ◌-◌, ◌≤◌, [], ◌∷◌, map, length, is_ok, IfOk, if◌then◌else◌, Decides, MatchOption, MatchResult, slice_index_or, slice_set};
 ghost use Rattle.sheets.specs.Causes.{Comparable, ComparableAt, LowestComparable, ToldPlace, clutter_causes};
 ghost use Rattle.sheets.specs.Sheets.{held as held_needs, Outcome};
-ghost use Rattle.sheets.specs.Standings.{capacity};
+ghost use Rattle.sheets.specs.Standings.{capacity, struck_storage};
 ghost use Rattle.sheets.specs.Refusals.{place as place_of};
 
 use crate::clutter::Clutter;
 use crate::refusal::Refusal;
+use clutters::close_up;
 use needs::Kind;
 
 // The most needs that are ever held.
@@ -48,6 +49,25 @@ impl<'a, K: Kind> Clutter<'a, K> {
         self.places[place] = need;
         self.held = place + 1;
         Ok(place)
+    }
+
+    // Takes out the need in a place and moves the later ones down by one; the place that falls free keeps what it holds.
+    pub(crate) fn strike(&mut self, place: usize) -> Result<K, Refusal>
+        requires within { self.old.held ≤ length self.old.places.now }
+        ensures within { self.new.held ≤ length self.new.places.now }
+        ensures refused { Outcome result ((7, self.old.held ≤ place) ∷ []) }
+        ensures answer { IfOk result (λ d. d ≡ slice_index_or (held_needs self.old) place d) }
+        ensures standing { self.new.held ≡ (if is_ok result then self.old.held - 1 else self.old.held) }
+        ensures storage { self.new.places.now ≡ (if is_ok result then struck_storage self.old.held place self.old.places.now else self.old.places.now) }
+    {
+        let held = self.held;
+        if place >= held {
+            return Err(Refusal::NotHeld);
+        }
+        let struck = self.places[place];
+        close_up(&mut self.places[0..held], place);
+        self.held = held - 1;
+        Ok(struck)
     }
 }
 

@@ -12,9 +12,11 @@ impl Refusal {
         match self {
             Refusal::UnknownComponent => 1,
             Refusal::RisingWeights => 2,
+            Refusal::BadReading => 3,
             Refusal::EmptyNeed => 4,
             Refusal::Comparable(_) => 5,
             Refusal::Full => 6,
+            Refusal::NotHeld => 7,
             Refusal::BadDepth => 8,
             Refusal::BadThreshold => 9,
             Refusal::BadSize => 10,

@@ -1,19 +1,23 @@
 // The calls that a sheet takes on the road.
-ghost use Rattle.std.specs.Prelude.{◌≡◌, ℕ, ◌≤◌, length, IfOk, MatchResult, OnOk};
-ghost use Rattle.sheets.specs.Causes.Call.{total as total_call, bracket as bracket_call, judge as judge_call};
+ghost use Rattle.std.specs.Prelude.{◌≡◌, ℕ, ◌^◌, ◌≤◌, length, IfOk, MatchResult, OnOk};
+ghost use Rattle.sheets.specs.Causes.Call.{total as total_call, bracket as bracket_call, judge as judge_call, try_with as try_call};
 ghost use Rattle.brackets.specs.Brackets.{pair as pair_of, verdict as verdict_of, Tells, Decided};
 ghost use Rattle.inclusion_exclusion.specs.Reliability.{Bounded};
 ghost use Rattle.inclusion_exclusion.specs.Bonferroni.{Holds, Inside};
-ghost use Rattle.sheets.specs.Answers.{setting_of, needs_of, road_total, road_counted, road_ends};
+ghost use Rattle.sheets.specs.Answers.{setting_of, needs_of, Found, road_total, road_counted, road_ends, reliability_of};
+ghost use Rattle.sheets.specs.Tries.{tried};
 ghost use Rattle.sheets.specs.Sheets.{bay_standing, bay_storage, road_standing, road_storage, road_causes, road_reliability, Outcome};
 
 use crate::bay::BaySheet;
 use crate::refusal::Refusal;
 use crate::road::RoadSheet;
+use crate::supposed::Supposed;
 use algebras::Algebra;
-use brackets::{Depth, Ends, Threshold, Verdict, bracket_ends};
+use brackets::{Depth, Ends, Threshold, Verdict, bracket_ends, tried_ends};
+use clutters::same_place;
 use needs::Kind;
 use totals::total;
+use weights::{LEVELS, trimmed};
 
 impl<'a, K: Kind> RoadSheet<'a, K> {
     pub fn components(&self) -> usize
@@ -48,6 +52,13 @@ impl<'a, K: Kind> RoadSheet<'a, K> {
         }
     }
 
+    // The place of a need that is the same as the given one, if one is held.
+    pub fn find(&self, need: K) -> Option<usize>
+        ensures answer { Found K.Kind.levels K.Kind.top (road_standing self.now) need result }
+    {
+        same_place(self.needs.needs(), need)
+    }
+
     // The total to a depth, in any algebra, written into `answer`; a refusal leaves that as it was.
     pub fn total<A: Algebra>(&self, depth: u8, answer: &mut A::Value) -> Result<(), Refusal>
         ensures refused { Outcome result (road_causes K.Kind self.now (total_call depth)) }
@@ -74,6 +85,7 @@ impl<'a, K: Kind> RoadSheet<'a, K> {
         ensures answer { IfOk result (λ p. p ≡ pair_of (road_ends K.Kind.levels K.Kind.top (road_standing self.now) depth)) }
         ensures holds_reliability { IfOk result (λ p. Holds p (road_reliability K.Kind self.now)) }
         ensures deeper_lies_inside { IfOk result (λ p. (deeper : ℕ) → depth ≤ deeper → Inside (pair_of (road_ends K.Kind.levels K.Kind.top (road_standing self.now) deeper)) p) }
+        ensures bound { IfOk result (λ p. (p.0 ≤ 2 ^ 32) × (p.1 ≤ 2 ^ 32)) }
         ensures totals_bound_reliability { Bounded (setting_of K.Kind.levels K.Kind.top (road_standing self.now)) (needs_of K.Kind.levels K.Kind.top (road_standing self.now)) }
     {
         match Depth::new(depth) {
@@ -96,5 +108,35 @@ impl<'a, K: Kind> RoadSheet<'a, K> {
             return Err(Refusal::BadThreshold);
         };
         Ok(self.ends(at).verdict(asked))
+    }
+
+    // The bracket with one component dead or sure; the sheet has its own card back, however the try ends.
+    pub fn try_with(
+        &mut self,
+        component: usize,
+        supposed: Supposed,
+        depth: u8,
+    ) -> Result<(u64, u64), Refusal>
+        ensures refused { Outcome result (road_causes K.Kind self.old (try_call component supposed depth)) }
+        ensures answer { IfOk result (λ p. p ≡ pair_of (road_ends K.Kind.levels K.Kind.top (tried K.Kind.top component supposed (road_standing self.old)) depth)) }
+        ensures holds_reliability { IfOk result (λ p. Holds p (reliability_of K.Kind.levels K.Kind.top (tried K.Kind.top component supposed (road_standing self.old)))) }
+        ensures deeper_lies_inside { IfOk result (λ p. (deeper : ℕ) → depth ≤ deeper → Inside (pair_of (road_ends K.Kind.levels K.Kind.top (tried K.Kind.top component supposed (road_standing self.old)) deeper)) p) }
+        ensures bound { IfOk result (λ p. (p.0 ≤ 2 ^ 32) × (p.1 ≤ 2 ^ 32)) }
+        ensures standing { road_standing self.new ≡ road_standing self.old }
+        ensures storage { road_storage self.new ≡ road_storage self.old }
+    {
+        let components = self.components;
+        if component >= components {
+            return Err(Refusal::UnknownComponent);
+        }
+        let row = trimmed([supposed.weight(); LEVELS], K::top_level());
+        let mut card = self.card;
+        let needs = self.needs.needs();
+        let ends = tried_ends(needs, components, &mut card.rows, component, row, depth);
+        self.card = card;
+        match ends {
+            Some(ends) => Ok(ends.pair()),
+            None => Err(Refusal::BadDepth),
+        }
     }
 }

@@ -1,14 +1,18 @@
-use Rattle.std.proofs.Common.{◌≡◌, ℕ, cond, ◌∷◌, map, take, set, is_ok, sym, ap, ◌∙◌, subst, MatchResult}
+use Rattle.std.proofs.Common.{◌≡◌, ℕ, cond, ◌∷◌, map, length, take, set, ◌≤ℤ◌, is_ok, sym, ap, ◌∙◌, subst, MatchResult}
+use lib.Signed.{≤ℤ_refl}
 use Rattle.std.proofs.lemmas.List.{length-take-le}
 use Rattle.std.proofs.lemmas.Bool.Decides.{not_from_Decides}
-use Rattle.sheets.specs.Causes.{AsksFrom, clutter_causes, causes, ToldPlace}
+use Rattle.sheets.specs.Causes.{AsksFrom}
+use Rattle.sheets.specs.Causes.{clutter_causes, causes, ToldPlace}
 use Rattle.sheets.specs.Causes.Call.{fit}
 use Rattle.sheets.specs.Standings.{capacity, fitted}
 use Rattle.sheets.specs.Refusals.{place}
 use Rattle.sheets.specs.Sheets.{bay_standing}
-use Rattle.sheets.proofs.Outcomes.{passes, standing_fitted}
+use Rattle.sheets.specs.Answers.{reliability_of}
+use Rattle.sheets.specs.Settled.{Settled}
+use Rattle.sheets.proofs.Outcomes.{passes, by_outcome, standing_fitted}
 use Rattle.sheets.proofs.Reliable.{proper, fit_raises}
-use Rattle.sheets.proofs.Settled.{fitted_settled, kept_settled}
+use Rattle.sheets.proofs.Settled.{fitted_settled}
 use Rattle.sheets.proofs.bay.BaySheet.fit.Goals as goal
 
 pub returns : goal.returns
@@ -31,6 +35,8 @@ returns g c =
       answer = subst (λ (n : ℕ). MatchResult r (λ p. p ≡ n) (λ e. ToldPlace (map levels (take held places)) (levels d) (place e))) (sym long) c.fit.ensures.answer;
       standing = after;
       storage = c.fit.ensures.storage ∙ ap (λ n. cond (is_ok r) (set places n d) places) (sym long);
-      settled = kept_settled levels top r (causes levels top (capacity places) before (fit d)) before (fitted d before) _ outcome after (fitted_settled levels top (capacity places) before d);
-      never_lowers = fit_raises levels top before _ d (is_ok r) (proper levels top before g.met.K.Kind.top_most self.most self.falling) after;
+      settled = λ settled. by_outcome (Settled levels top) r (causes levels top (capacity places) before (fit d)) before (fitted d before) _ outcome after (λ accepted. fitted_settled levels top (capacity places) before d accepted settled) settled;
+      never_lowers =
+          by_outcome (λ s. reliability_of levels top before ≤ℤ reliability_of levels top s) r (causes levels top (capacity places) before (fit d)) before (fitted d before) _ outcome after
+          (λ _. fit_raises levels top before d (proper levels top before g.met.K.Kind.top_most self.most self.falling)) (≤ℤ_refl (reliability_of levels top before));
     }

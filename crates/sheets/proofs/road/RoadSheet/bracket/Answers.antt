@@ -1,6 +1,6 @@
 -- The pair as defined, and so what it holds. Assumes nothing.
 use Rattle.std.proofs.Common.{rules}
-use Rattle.brackets.proofs.Told.{pair_holds, deeper_inside}
+use Rattle.brackets.proofs.Told.{pair_holds, deeper_inside, pair_bound}
 use Rattle.sheets.proofs.Reliable.{road_bounded, road_bracketed}
 use Rattle.sheets.proofs.road.RoadSheet.bracket.Goals as goal
 
@@ -14,6 +14,7 @@ returns-in-Some g c =
       answer = search rules;
       holds_reliability = pair_holds _ _ around c.args.depth _ (search rules);
       deeper_lies_inside = deeper_inside _ _ around c.args.depth _ (search rules);
+      bound = pair_bound _ _ around c.args.depth _ (search rules);
       totals_bound_reliability = road_bounded g.K.Kind.levels g.K.Kind.top low most c.args.self.now;
     }
 
@@ -24,5 +25,6 @@ returns-in-None g c =
       answer = tt;
       holds_reliability = tt;
       deeper_lies_inside = tt;
+      bound = tt;
       totals_bound_reliability = road_bounded g.K.Kind.levels g.K.Kind.top g.met.K.Kind.top_most g.met.K.Kind.levels_most c.args.self.now;
     }

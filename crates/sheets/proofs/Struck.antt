@@ -6,11 +6,11 @@ use Rattle.std.proofs.lemmas.List.{length-take-le, map-append, take-map, drop-ma
 use Rattle.std.proofs.lemmas.Bool.{cond_below}
 use Rattle.std.specs.List.{remove}
 use Rattle.clutters.specs.Clutters.{closed_up}
-use Rattle.sheets.specs.Standings.{struck-storage}
+use Rattle.sheets.specs.Standings.{struck_storage}
 
 module _ {K : Type 0} (places : List K) (held p : ℕ) (within : held ≤ length places) (at : p < held) where
   -- the held needs closed up, and all places behind them
-  pub struck_places : (row : List K) → row ≡ closed_up (take held places) p → row ++ drop held places ≡ struck-storage held p places
+  pub struck_places : (row : List K) → row ≡ closed_up (take held places) p → row ++ drop held places ≡ struck_storage held p places
   struck_places row is =
       let needs = take held places in
       let long : length needs ≡ held = length-take-le held places within in
@@ -20,13 +20,13 @@ module _ {K : Type 0} (places : List K) (held p : ℕ) (within : held ≤ length
       sym (drop-append-le (held - 1) needs (drop held places) (omega arith)) ∙ ap (drop (held - 1)) (take-append-drop held places) in
       ap (λ xs. xs ++ drop held places) closed ∙ append_assoc (remove needs p) (drop (held - 1) needs) (drop held places) ∙ ap (λ xs. remove needs p ++ xs) behind
 
-  pub struck_needs : take (held - 1) (struck-storage held p places) ≡ remove (take held places) p
+  pub struck_needs : take (held - 1) (struck_storage held p places) ≡ remove (take held places) p
   struck_needs =
       let long : length (take held places) ≡ held = length-take-le held places within in
       let less = length-remove (take held places) p (omega arith) in
       take_at (remove (take held places) p) (drop (held - 1) places) (held - 1) (omega arith)
 
-  pub struck_length : length (struck-storage held p places) ≡ length places
+  pub struck_length : length (struck_storage held p places) ≡ length places
   struck_length =
       let long : length (take held places) ≡ held = length-take-le held places within in
       let less = length-remove (take held places) p (omega arith) in

@@ -4,7 +4,7 @@ use Rattle.weights.proofs.Rows.{trimmed_trimmed}
 use Rattle.readings.specs.Readings.{AreChances, sixty_fourths}
 use Rattle.inclusion_exclusion.specs.Changes.{Raises, Lowers}
 use Rattle.sheets.specs.Causes.{causes}
-use Rattle.sheets.specs.declared.call.Call.TheVariants.{Set as set_call}
+use Rattle.sheets.specs.Causes.Call.{set as set_call}
 use Rattle.sheets.specs.Standings.{Standing, capacity, weighted}
 use Rattle.sheets.specs.Sheets.{bay_standing, bay_storage, Outcome}
 use Rattle.sheets.proofs.Measured.{behind_readings, raises_trimmed, lowers_trimmed}

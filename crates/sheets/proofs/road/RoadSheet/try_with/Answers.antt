@@ -9,7 +9,7 @@ use Rattle.sheets.specs.Sheets.{held, road_standing}
 use Rattle.sheets.specs.Tries.{weight_of, tried}
 use Rattle.sheets.specs.Answers.{road_ends}
 use Rattle.sheets.proofs.Measured.{alike_falls}
-use Rattle.sheets.proofs.Reliable.{weighted-bracketed}
+use Rattle.sheets.proofs.Reliable.{weighted_bracketed}
 use Rattle.sheets.proofs.road.RoadSheet.try_with.Goals as goal
 
 pub returns-in-Some : goal.returns-in-Some
@@ -27,7 +27,7 @@ returns-in-Some g c =
     let ends-are : c.in-Some.ends ≡ road_ends levels top (tried top i what (road_standing self)) depth =
     c.in-Some.ensures.answer.0 ∙ ap (λ row. by (set self.card.rows i row) c.needs-needs.result.now) row_is ∙ ap (by (set self.card.rows i (trimmed top alike))) c.needs-needs.ensures.answer in
     let answer : c.pair.result ≡ pair (road_ends levels top (tried top i what (road_standing self)) depth) = c.pair.ensures.answer ∙ ap pair ends-are in
-    let around = weighted-bracketed levels top g.met.K.Kind.top_most g.met.K.Kind.levels_most self i alike (alike_falls top what g.met.K.Kind.top_most) in
+    let around = weighted_bracketed levels top g.met.K.Kind.top_most g.met.K.Kind.levels_most self i alike (alike_falls top what g.met.K.Kind.top_most) in
     record {
       refused = search rules;
       answer = answer;
