@@ -1,4 +1,4 @@
-// Worked figures: one theorem over their list, and calls on the worked sheets as tests.
+// Worked figures: one theorem over their list, and calls and lists of calls on worked sheets as tests.
 #![tactic(auto)]
 
 ghost use Rattle.std.specs.Prelude.{◌≡◌, length};
@@ -11,6 +11,9 @@ pub fn figures_hold() -> usize
 {
     20
 }
+
+#[cfg(test)]
+mod lists;
 
 #[cfg(test)]
 mod tests {

@@ -7,10 +7,10 @@ use Rattle.sheets.specs.Causes.{First, ToldPlace}
 use Rattle.sheets.specs.Refusals.{number, place}
 use Rattle.sheets.specs.Sheets.{Outcome}
 use Rattle.sheets.specs.declared.refusal.Refusal.{Refusal}
-use Rattle.sheets.specs.declared.call.AlgebraName.{AlgebraName}
-use Rattle.sheets.specs.declared.call.AlgebraName.TheVariants.{Own}
-use Rattle.sheets.specs.declared.call.Call.{Call}
-use Rattle.sheets.specs.declared.call.Call.TheVariants.{Size, Set, SetByReadings, Fit, Strike, PutOut, Find, Total, Bracket, Judge, Try, CallIn}
+use Rattle.calls.specs.declared.call.AlgebraName.{AlgebraName}
+use Rattle.calls.specs.declared.call.AlgebraName.TheVariants.{Own}
+use Rattle.calls.specs.declared.call.Call.{Call}
+use Rattle.calls.specs.declared.call.Call.TheVariants.{Size, Set, SetByReadings, Fit, Strike, PutOut, Find, Total, Bracket, Judge, Try, CallIn}
 use Rattle.calls.specs.declared.answer.Answer.{Answer}
 use Rattle.calls.specs.declared.answer.Answer.TheVariants.{Refused}
 use Rattle.calls.specs.Book.{Side, road, page, taken_in, turned, Answers, causes_at, Told, Step}

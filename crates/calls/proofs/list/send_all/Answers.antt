@@ -1,4 +1,4 @@
-use Rattle.std.proofs.Common.{◌≡◌, List, sym, ap, ◌∙◌, subst, arith, rules}
+use Rattle.std.proofs.Common.{sym, subst, arith}
 use Rattle.sheets.specs.Sheets.{bay_storage, road_standing, road_storage}
 use Rattle.calls.specs.Book.{page, bay}
 use Rattle.calls.specs.Law.{Law}

@@ -1,8 +1,8 @@
 // Worked lists of calls: each premise of the law over lists occurs in one of them.
 use algebras::{Algebra, Fixed, Residue};
 use brackets::Verdict;
-use calls::{Answer, Last, replay};
-use sheets::{AlgebraName, Call, Supposed};
+use calls::{AlgebraName, Answer, Call, Last, replay};
+use sheets::Supposed;
 
 const LONGEST: usize = 16;
 

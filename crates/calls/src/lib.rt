@@ -7,11 +7,13 @@ use algebras::Algebra;
 use needs::Kind;
 
 mod answer;
+mod call;
 mod list;
 mod send;
 mod sheet;
 
 pub use answer::Answer;
+pub use call::{AlgebraName, Call};
 pub use list::{Last, replay};
 
 // There is one book to a list of calls.

@@ -8,8 +8,8 @@ use Rattle.algebras.specs.Model.{Model}
 use Rattle.inclusion_exclusion.specs.Changes.{one_more, one_less}
 use Rattle.sheets.specs.Standings.{opened}
 use Rattle.sheets.specs.Causes.{Accepted}
-use Rattle.sheets.specs.declared.call.Call.{Call}
-use Rattle.sheets.specs.declared.call.Call.TheVariants.{Size, Set, SetByReadings, Fit, Strike, PutOut, Find, Total, Bracket, Judge, Try, CallIn}
+use Rattle.calls.specs.declared.call.Call.{Call}
+use Rattle.calls.specs.declared.call.Call.TheVariants.{Size, Set, SetByReadings, Fit, Strike, PutOut, Find, Total, Bracket, Judge, Try, CallIn}
 use Rattle.calls.specs.declared.answer.Answer.{Answer}
 use Rattle.calls.specs.Book.{Page, turned, causes_at}
 use Rattle.calls.specs.Law.{Kept}

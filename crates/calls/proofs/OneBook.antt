@@ -3,8 +3,8 @@ use Rattle.std.proofs.Common.{◌≡◌, ℕ, zero, suc, ◌≤◌, ◌⊎◌, L
 use Rattle.needs.specs.Levels.{Need}
 use Rattle.algebras.specs.Model.{Model}
 use Rattle.sheets.specs.Causes.{Accepted, First}
-use Rattle.sheets.specs.declared.call.Call.{Call}
-use Rattle.sheets.specs.declared.call.Call.TheVariants.{PutOut}
+use Rattle.calls.specs.declared.call.Call.{Call}
+use Rattle.calls.specs.declared.call.Call.TheVariants.{PutOut}
 use Rattle.calls.specs.declared.answer.Answer.{Answer}
 use Rattle.calls.specs.Book.{Page, taken_in, turned, causes_at, Step, elsewhere, refused, accepted}
 use Rattle.calls.specs.Law.{Kept}

@@ -4,7 +4,7 @@ use Rattle.std.proofs.lemmas.Bool.{cases_lt, cond-true, cond-false, le-leb, lt-l
 use Rattle.needs.specs.Levels.{Need}
 use Rattle.algebras.specs.Model.{Model}
 use Rattle.sheets.specs.Standings.{Standing, opened}
-use Rattle.sheets.specs.declared.call.Call.{Call}
+use Rattle.calls.specs.declared.call.Call.{Call}
 use Rattle.calls.specs.declared.answer.Answer.{Answer}
 use Rattle.calls.specs.Book.{Page, page, bay, Step}
 use Rattle.calls.specs.Law.{StandsIn, Kept, Law}

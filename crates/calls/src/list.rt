@@ -1,18 +1,18 @@
 // A list of calls, sent to a sheet that is opened for it.
 ghost use Rattle.std.specs.Prelude.{◌≡◌, MatchResult, slice_set};
 ghost use Rattle.sheets.specs.Sheets.{road_standing, road_storage, road_causes, Outcome};
-ghost use Rattle.sheets.specs.declared.call.AlgebraName.TheVariants.{Own as own_algebra};
-ghost use Rattle.sheets.specs.declared.call.Call.TheVariants.{Total as total_call};
+ghost use Rattle.sheets.specs.Causes.Call.{total as total_asked};
 ghost use Rattle.calls.specs.Book.{Totals};
 ghost use Rattle.calls.specs.Law.{Law};
 ghost use Rattle.calls.specs.Pages.{page_of};
 
 use crate::answer::Answer;
+use crate::call::Call;
 use crate::send::send;
 use crate::sheet::Sheet;
 use algebras::Algebra;
 use needs::Kind;
-use sheets::{BaySheet, Call, Refusal, RoadSheet};
+use sheets::{BaySheet, Refusal, RoadSheet};
 
 // The place of the total that is asked for last, and whether it was refused; then the total is as it was.
 #[derive(Clone, Copy)]
@@ -68,7 +68,7 @@ pub fn replay<'a, K: Kind, A: Algebra>(
     last: &mut Last<A::Value>,
 ) -> RoadSheet<'a, K>
     ensures law { Law K.Kind.levels K.Kind.top A.Algebra.model A.Algebra.means places.old calls.now answers.old answers.new (road_standing result) (road_storage result) }
-    ensures refused { Outcome last.new.outcome (road_causes K.Kind result (total_call own_algebra depth)) }
+    ensures refused { Outcome last.new.outcome (road_causes K.Kind result (total_asked depth)) }
     ensures answer { MatchResult last.new.outcome (λ _. Totals K.Kind.levels K.Kind.top A.Algebra.model A.Algebra.means A.Algebra.model (road_standing result) depth (A.Algebra.means last.new.total)) (λ _. last.new.total ≡ last.old.total) }
 {
     let sheet = send_all::<K, A>(places, calls, answers);

@@ -15,16 +15,17 @@ use Rattle.algebras.specs.Meanings.{meaning, coefficients}
 use Rattle.algebras.specs.declared.residue.Residue.{Residue}
 use Rattle.algebras.specs.declared.polynomial.Coefficients.{Coefficients}
 use Rattle.brackets.specs.Brackets.{pair, verdict}
-use Rattle.sheets.specs.Standings.{Standing, capacity, sized, weighted, fitted, struck, struck-storage}
-use Rattle.sheets.specs.Causes.{causes, Accepted, First, ToldPlace}
+use Rattle.sheets.specs.Standings.{Standing, capacity, sized, weighted, fitted, struck, struck_storage}
+use Rattle.sheets.specs.Causes.{causes, Accepted, First, ToldPlace, Call as TableCall}
+use Rattle.sheets.specs.Causes.Call.{size, set, set_by_readings, fit, strike, put_out, find, total, bracket, judge, try_with, call_in}
 use Rattle.sheets.specs.Refusals.{number, place}
 use Rattle.sheets.specs.Answers.{road_total, road_counted, road_ends, Found}
 use Rattle.sheets.specs.Tries.{tried}
 use Rattle.sheets.specs.declared.refusal.Refusal.{Refusal}
-use Rattle.sheets.specs.declared.call.AlgebraName.{AlgebraName}
-use Rattle.sheets.specs.declared.call.AlgebraName.TheVariants.{Fixed, Polynomial, Count, Own}
-use Rattle.sheets.specs.declared.call.Call.{Call}
-use Rattle.sheets.specs.declared.call.Call.TheVariants.{Size, Set, SetByReadings, Fit, Strike, PutOut, Find, Total, Bracket, Judge, Try, CallIn}
+use Rattle.calls.specs.declared.call.AlgebraName.{AlgebraName}
+use Rattle.calls.specs.declared.call.AlgebraName.TheVariants.{Fixed, Polynomial, Count, Own}
+use Rattle.calls.specs.declared.call.Call.{Call}
+use Rattle.calls.specs.declared.call.Call.TheVariants.{Size, Set, SetByReadings, Fit, Strike, PutOut, Find, Total, Bracket, Judge, Try, CallIn}
 use Rattle.calls.specs.declared.answer.Answer.{Answer}
 use Rattle.calls.specs.declared.answer.Answer.TheVariants as answer
 
@@ -53,12 +54,27 @@ taken_in (Judge r t) = road
 taken_in (Try i what r) = road
 taken_in CallIn = road
 
+-- the call as the table of causes has it
+abbrev pub asked : {K : Type 0} → Call K → TableCall K
+asked (Size n) = size n
+asked (Set i row) = set i row
+asked (SetByReadings i readings) = set_by_readings i readings
+asked (Fit d) = fit d
+asked (Strike p) = strike p
+asked PutOut = put_out
+asked (Find d) = find d
+asked (Total algebra r) = total r
+asked (Bracket r) = bracket r
+asked (Judge r t) = judge r t
+asked (Try i what r) = try_with i what r
+asked CallIn = call_in
+
 abbrev pub turned : {K : Type 0} → (top : ℕ) → Call K → Page K → Page K
 turned top (Size n) b = page bay (sized n b.standing) b.storage
 turned top (Set i row) b = page bay (weighted top i row b.standing) b.storage
 turned top (SetByReadings i readings) b = page bay (weighted top i (map sixty_fourths readings) b.standing) b.storage
 turned top (Fit d) b = page bay (fitted d b.standing) (slice_set b.storage (length b.standing.needs) d)
-turned top (Strike p) b = page bay (struck p b.standing) (struck-storage (length b.standing.needs) p b.storage)
+turned top (Strike p) b = page bay (struck p b.standing) (struck_storage (length b.standing.needs) p b.storage)
 turned top PutOut b = page road b.standing b.storage
 turned top (Find d) b = b
 turned top (Total algebra r) b = b
@@ -93,7 +109,7 @@ module _ {K V : Type 0} (levels : K → Need) (top : ℕ) (own : Model) (means :
   Answers s CallIn a = a ≡ answer.Done
 
   abbrev pub causes_at : Page K → Call K → List (ℕ × Type 0)
-  causes_at b = causes levels top (capacity b.storage) b.standing
+  causes_at b c = causes levels top (capacity b.storage) b.standing (asked c)
 
   -- the place that a refused fit tells, if it tells one
   abbrev pub Told : Call K → Standing K → Refusal → Type 0

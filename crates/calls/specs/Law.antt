@@ -19,8 +19,8 @@ use Rattle.sheets.specs.Standings.{Standing, opened}
 use Rattle.sheets.specs.Answers.{road_ends, reliability_of}
 use Rattle.sheets.specs.Tries.{tried}
 use Rattle.sheets.specs.declared.supposed.Supposed.{Supposed}
-use Rattle.sheets.specs.declared.call.Call.{Call}
-use Rattle.sheets.specs.declared.call.Call.TheVariants.{Set, SetByReadings, Fit, Strike, Bracket, Judge, Try}
+use Rattle.calls.specs.declared.call.Call.{Call}
+use Rattle.calls.specs.declared.call.Call.TheVariants.{Set, SetByReadings, Fit, Strike, Bracket, Judge, Try}
 use Rattle.calls.specs.declared.answer.Answer.{Answer}
 use Rattle.calls.specs.declared.answer.Answer.TheVariants as answer
 use Rattle.calls.specs.Book.{Page, page, bay, Step}

@@ -1,18 +1,19 @@
 // One call, sent to a sheet.
 ghost use Rattle.std.specs.Prelude.{◌≡◌, IfOk, MatchResult, ◌≢◌};
 ghost use Rattle.sheets.specs.Sheets.{road_standing, road_causes, Outcome};
-ghost use Rattle.sheets.specs.declared.call.AlgebraName.TheVariants.{Own as own_algebra};
-ghost use Rattle.sheets.specs.declared.call.Call.TheVariants.{PutOut as put_out_call, CallIn as call_in_call, Total as total_call};
+ghost use Rattle.sheets.specs.Causes.Call.{total as total_asked};
+ghost use Rattle.calls.specs.declared.call.Call.TheVariants.{PutOut as put_out_call, CallIn as call_in_call, Total as total_call};
 ghost use Rattle.calls.specs.Book.{Step, Totals};
 ghost use Rattle.calls.specs.Pages.{bay_page, road_page, page_of};
-ghost use Rattle.calls.specs.declared.answer.Answer.TheVariants.{Done as done_answer, Place as place_answer, Need as need_answer, Bracket as bracketAnswer, Verdict as verdict_answer, Refused as refused_answer};
+ghost use Rattle.calls.specs.declared.answer.Answer.TheVariants.{Done as done_answer, Place as place_answer, Need as need_answer, Bracket as bracket_answer, Verdict as verdict_answer, Refused as refused_answer};
 
 use crate::answer::Answer;
+use crate::call::{AlgebraName, Call};
 use crate::sheet::Sheet;
 use algebras::{Algebra, Count, Fixed, Polynomial};
 use brackets::Verdict;
 use needs::Kind;
-use sheets::{AlgebraName, BaySheet, Call, Refusal, RoadSheet};
+use sheets::{BaySheet, Refusal, RoadSheet};
 
 fn done<K, V>(outcome: Result<(), Refusal>) -> Answer<K, V>
     ensures answer { MatchResult outcome (λ _. result ≡ done_answer) (λ e. result ≡ refused_answer e) }
@@ -42,7 +43,7 @@ fn taken<K, V>(outcome: Result<K, Refusal>) -> Answer<K, V>
 }
 
 fn bracketed<K, V>(outcome: Result<(u64, u64), Refusal>) -> Answer<K, V>
-    ensures answer { MatchResult outcome (λ p. result ≡ bracketAnswer p) (λ e. result ≡ refused_answer e) }
+    ensures answer { MatchResult outcome (λ p. result ≡ bracket_answer p) (λ e. result ≡ refused_answer e) }
 {
     match outcome {
         Ok(pair) => Answer::Bracket(pair),
@@ -76,7 +77,7 @@ fn change<K: Kind, A: Algebra>(bay: &mut BaySheet<'_, K>, call: Call<K>) -> Answ
 
 // A total as a value of its own.
 fn total_in<K: Kind, A: Algebra>(road: &RoadSheet<'_, K>, depth: u8) -> Result<A::Value, Refusal>
-    ensures refused { Outcome result (road_causes K.Kind road.now (total_call own_algebra depth)) }
+    ensures refused { Outcome result (road_causes K.Kind road.now (total_asked depth)) }
     ensures answer { IfOk result (λ x. Totals K.Kind.levels K.Kind.top A.Algebra.model A.Algebra.means A.Algebra.model (road_standing road.now) depth (A.Algebra.means x)) }
 {
     let mut value = A::zero();

@@ -17,8 +17,8 @@ use Rattle.brackets.proofs.Told.{pair_holds, deeper_inside, verdict_tells, verdi
 use Rattle.sheets.specs.Standings.{Standing, weighted}
 use Rattle.sheets.specs.Answers.{setting_of, needs_of, road_ends, reliability_of}
 use Rattle.sheets.specs.Tries.{weight_of}
-use Rattle.sheets.specs.declared.call.Call.{Call}
-use Rattle.sheets.specs.declared.call.Call.TheVariants.{Judge}
+use Rattle.calls.specs.declared.call.Call.{Call}
+use Rattle.calls.specs.declared.call.Call.TheVariants.{Judge}
 use Rattle.sheets.proofs.Reliable.{proper, bounded}
 use Rattle.sheets.proofs.Measured.{alike_falls}
 use Rattle.calls.specs.declared.answer.Answer.{Answer}

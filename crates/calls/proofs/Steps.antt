@@ -11,8 +11,8 @@ use Rattle.sheets.specs.Standings.{Standing, weighted}
 use Rattle.sheets.specs.Causes.{Accepted}
 use Rattle.sheets.specs.Answers.{road_ends}
 use Rattle.sheets.specs.declared.refusal.Refusal.{Refusal}
-use Rattle.sheets.specs.declared.call.Call.{Call}
-use Rattle.sheets.specs.declared.call.Call.TheVariants.{Set, SetByReadings, Bracket, Judge, Try}
+use Rattle.calls.specs.declared.call.Call.{Call}
+use Rattle.calls.specs.declared.call.Call.TheVariants.{Set, SetByReadings, Bracket, Judge, Try}
 use Rattle.calls.specs.declared.answer.Answer.{Answer}
 use Rattle.calls.specs.declared.answer.Answer.TheVariants as answer
 use Rattle.calls.specs.Book.{Page, turned, Answers, causes_at, Step, elsewhere, refused, accepted}

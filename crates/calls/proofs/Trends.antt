@@ -10,9 +10,9 @@ use Rattle.inclusion_exclusion.specs.Changes.{Raises, Lowers, Follows}
 use Rattle.inclusion_exclusion.proofs.Monotonicity.{sets_follow_weights}
 use Rattle.sheets.specs.Standings.{Standing, weighted}
 use Rattle.sheets.specs.Answers.{setting_of, needs_of, reliability_of}
-use Rattle.sheets.specs.declared.call.Call.{Call}
-use Rattle.sheets.specs.declared.call.Call.TheVariants.{Fit, Strike}
-use Rattle.sheets.proofs.Reliable.{fit_raises, strike-lowers}
+use Rattle.calls.specs.declared.call.Call.{Call}
+use Rattle.calls.specs.declared.call.Call.TheVariants.{Fit, Strike}
+use Rattle.sheets.proofs.Reliable.{fit_raises, strike_lowers}
 use Rattle.calls.specs.declared.answer.Answer.{Answer}
 use Rattle.calls.specs.Book.{Page, turned, Step}
 use Rattle.calls.specs.Law.{Sets, FitOrRaise, StrikeOrLower}
@@ -55,4 +55,4 @@ module _ {K V : Type 0} (levels : K → Need) (top : ℕ) (own : Model) (means :
     pub sinks : StrikeOrLower levels top own means c held → Stepped → reliability_of levels top after.standing ≤ℤ reliability_of levels top held
     sinks =
         after_change (λ s. reliability_of levels top s ≤ℤ reliability_of levels top held) (omega (arith, ints)) Strike (Lowers top)
-        (λ p. strike-lowers levels top held p proper) (λ i row falling. (follows i row falling).lowered)
+        (λ p. strike_lowers levels top held p proper) (λ i row falling. (follows i row falling).lowered)

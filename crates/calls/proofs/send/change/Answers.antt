@@ -2,9 +2,9 @@ use Rattle.std.proofs.Common.{◌≡◌, map, length, get_or, set, is_ok, refl, 
 use Rattle.readings.specs.Readings.{sixty_fourths}
 use Rattle.sheets.specs.Causes.{ToldPlace}
 use Rattle.sheets.specs.Refusals.{place}
-use Rattle.sheets.specs.Standings.{sized, weighted, fitted, struck, struck-storage}
+use Rattle.sheets.specs.Standings.{sized, weighted, fitted, struck, struck_storage}
 use Rattle.sheets.specs.Sheets.{bay_standing, bay_storage}
-use Rattle.sheets.specs.declared.call.Call.TheVariants.{Size, Set, SetByReadings, Fit, Strike}
+use Rattle.calls.specs.declared.call.Call.TheVariants.{Size, Set, SetByReadings, Fit, Strike}
 use Rattle.calls.specs.declared.answer.Answer.TheVariants.{Done, Place, Need}
 use Rattle.calls.specs.Book.{bay}
 use Rattle.calls.proofs.Sending.{step_told, step_fit, unchanged}
@@ -71,7 +71,7 @@ returns-in-Strike g c =
     let p = c.in-Strike.place in
     record {
       step =
-          step_told g.K.Kind.levels g.K.Kind.top g.A.Algebra.model g.A.Algebra.means c.strike.result bay s _ (struck p s) storage _ (struck-storage (length s.needs) p storage) c.taken.result
+          step_told g.K.Kind.levels g.K.Kind.top g.A.Algebra.model g.A.Algebra.means c.strike.result bay s _ (struck p s) storage _ (struck_storage (length s.needs) p storage) c.taken.result
           c.strike.ensures.standing c.strike.ensures.storage c.args.call (Strike p) c.in-Strike.is refl refl c.strike.ensures.refused
           (λ d. d ≡ get_or s.needs p d) _ Need c.strike.ensures.answer c.taken.ensures.answer (λ d at is. (d, is, at)) refl;
     }

@@ -3,7 +3,7 @@ use Rattle.brackets.specs.Brackets.{pair, verdict}
 use Rattle.sheets.specs.Answers.{road_ends}
 use Rattle.sheets.specs.Tries.{tried}
 use Rattle.sheets.specs.Sheets.{road_standing, road_storage}
-use Rattle.sheets.specs.declared.call.Call.TheVariants.{Bracket, Judge, Try}
+use Rattle.calls.specs.declared.call.Call.TheVariants.{Bracket, Judge, Try}
 use Rattle.calls.specs.declared.answer.Answer.TheVariants as answer
 use Rattle.calls.specs.Book.{road, Step}
 use Rattle.calls.specs.Pages.{road_page}
