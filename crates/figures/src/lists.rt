@@ -47,7 +47,7 @@ const SECOND: Call<u16> = Call::SetByReadings(1, [0.5, 0.0, 0.0]);
 
 const THIRD: Call<u16> = Call::Set(2, [32, 0, 0]);
 
-// Two tries and brackets alike, of which the deeper lies inside the other; totals of several algebras; calls that are
+// Two tries alike, of which the deeper lies inside the other; totals of several algebras; calls that are
 // refused, and calls that the other side takes.
 #[test]
 fn brackets_in_a_list(rt: HostRuntime) {

@@ -1,5 +1,5 @@
 -- Outcomes by the table of causes. Assumes nothing.
-use Rattle.std.proofs.Common.{◌≡◌, ℕ, ◌+◌, ◌-◌, ◌<◌, ◌≤◌, Bool, true, false, cond, List, [], ◌∷◌, ◌++◌, map, length, take, set, is_ok, Ok, Err, Result, sym, refl, ap, ◌∙◌, subst, inl, inr, arith}
+use Rattle.std.proofs.Common.{◌≡◌, ℕ, ◌+◌, ◌-◌, ◌<◌, ◌≤◌, cond, List, [], ◌∷◌, ◌++◌, map, length, take, set, is_ok, Ok, Err, Result, sym, ap, ◌∙◌, subst, inr, arith}
 use Rattle.sheets.specs.declared.refusal.Refusal.{Refusal}
 use Rattle.needs.specs.Levels.{Need}
 use Rattle.std.proofs.lemmas.List.{take_more_set}

@@ -1,5 +1,5 @@
 -- What a sheet's types keep is what the theorems on totals, brackets and changes ask for. Assumes nothing.
-use Rattle.std.proofs.Common.{◌≡◌, ℕ, ◌≤◌, List, [], ◌∷◌, map, length, get_or, ◌≤ℤ◌, sym, subst, arith}
+use Rattle.std.proofs.Common.{ℕ, ◌≤◌, List, [], ◌∷◌, map, length, get_or, ◌≤ℤ◌, sym, subst, arith}
 use lib.ListN.{length-map}
 use Rattle.std.proofs.lemmas.List.{map-append, length-take-le}
 use Rattle.needs.specs.Levels.{Need}

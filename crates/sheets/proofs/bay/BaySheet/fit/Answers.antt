@@ -1,4 +1,4 @@
-use Rattle.std.proofs.Common.{◌≡◌, ℕ, cond, ◌∷◌, map, length, take, set, ◌≤ℤ◌, is_ok, sym, ap, ◌∙◌, subst, MatchResult}
+use Rattle.std.proofs.Common.{◌≡◌, ℕ, cond, ◌∷◌, map, take, set, ◌≤ℤ◌, is_ok, sym, ap, ◌∙◌, subst, MatchResult}
 use lib.Signed.{≤ℤ_refl}
 use Rattle.std.proofs.lemmas.List.{length-take-le}
 use Rattle.std.proofs.lemmas.Bool.Decides.{not_from_Decides}

@@ -1,11 +1,11 @@
-use Rattle.std.proofs.Common.{◌≡◌, ℕ, cond, List, [], map, get_or, set, is_ok, sym, ap, ◌∙◌, subst}
+use Rattle.std.proofs.Common.{◌≡◌, cond, [], map, get_or, set, is_ok, sym, ap, ◌∙◌, subst}
 use Rattle.weights.specs.Chances.{trimmed}
 use Rattle.weights.proofs.Rows.{trimmed_trimmed}
 use Rattle.readings.specs.Readings.{AreChances, sixty_fourths}
 use Rattle.inclusion_exclusion.specs.Changes.{Raises, Lowers}
 use Rattle.sheets.specs.Causes.{causes}
 use Rattle.sheets.specs.Causes.Call.{set as set_call}
-use Rattle.sheets.specs.Standings.{Standing, capacity, weighted}
+use Rattle.sheets.specs.Standings.{capacity, weighted}
 use Rattle.sheets.specs.Sheets.{bay_standing, bay_storage, Outcome}
 use Rattle.sheets.proofs.Measured.{behind_readings, raises_trimmed, lowers_trimmed}
 use Rattle.sheets.proofs.bay.BaySheet.set_by_readings.Goals as goal

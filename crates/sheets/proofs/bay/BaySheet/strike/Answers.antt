@@ -1,4 +1,4 @@
-use Rattle.std.proofs.Common.{◌≡◌, ℕ, ◌≤◌, cond, List, [], ◌∷◌, take, ◌≤ℤ◌, is_ok, sym, ap, ◌∙◌, subst}
+use Rattle.std.proofs.Common.{◌≤◌, cond, [], ◌∷◌, ◌≤ℤ◌, is_ok, sym, ap, ◌∙◌, subst}
 use lib.Signed.{≤ℤ_refl}
 use Rattle.std.proofs.lemmas.List.{length-take-le}
 use Rattle.sheets.specs.Causes.{causes}
