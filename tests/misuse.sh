@@ -4,7 +4,7 @@
 # refuses the others, for the missing method and for nothing else.
 set -u
 root=$(cd "$(dirname "$0")/.." && pwd)
-crates="needs weights algebras totals inclusion_exclusion brackets sheets"
+crates="needs weights clutters readings algebras totals inclusion_exclusion brackets sheets"
 copy=$(mktemp -d)
 trap 'rm -rf "$copy"' EXIT
 mkdir -p "$copy/crates/misuse/src"
