@@ -1,7 +1,10 @@
--- Arrays of residues as polynomials, and loops that write one place after another. Assumes nothing.
-use Rattle.std.proofs.Common.{◌≡◌, ℕ, zero, suc, ◌+◌, ◌-◌, ◌<◌, ◌≤◌, ◌≢◌, List, ◌∷◌, length, set, replicate, sym, refl, ap, ◌∙◌, ⊎_elim, arith, below_more}
+-- Arrays of residues as polynomials. Assumes nothing.
+use Rattle.std.proofs.Common.{◌≡◌, ℕ, zero, suc, ◌+◌, ◌-◌, ◌<◌, ◌≤◌, List, ◌∷◌, length, replicate, refl, ap, ◌∙◌, sym, subst, ⊎_elim, arith}
+use Rattle.std.specs.Array.{IsFromFnResult, IsFromFnResultFrom}
+use Rattle.std.specs.Fn.{Called}
+use denote.Param.Members.{Mut}
 use mathlib.Core.Path.{fun_ext}
-use Rattle.std.proofs.lemmas.List.{get_or_past, get_or-set_same, get_or-set_other, length-set}
+use Rattle.std.proofs.lemmas.List.{get_or_past}
 use Rattle.std.proofs.lemmas.Bool.{and_from, and_left, and_right, cases_lt, cond-false, cond-true, le-leb, lt-leb}
 use Rattle.algebras.specs.Residues.{Number, number}
 use Rattle.algebras.specs.ResidueLaws.{same_number}
@@ -15,6 +18,10 @@ at xs = coefficients (record { of = xs })
 pub at_past : (xs : List Residue) (k : ℕ) → length xs ≤ k → at xs k ≡ number 0
 at_past xs k h = ap meaning (get_or_past xs k _ h)
 
+-- where two arrays have both ended, an operation that keeps 0
+pub at_past_both : (op : Number → Number → Number) (xs ys : List Residue) → (op (number 0) (number 0)).value ≡ 0 → (k : ℕ) → length xs ≤ k → length ys ≤ k → op (at xs k) (at ys k) ≡ number 0
+at_past_both op xs ys zeros k h e = rw (at_past xs k h, at_past ys k e) (same_number zeros)
+
 -- places that all hold 0, and the same after a 1 at place 0
 pub at_zeros : (n : ℕ) (z : Residue) → meaning z ≡ number 0 → (k : ℕ) → at (replicate n z) k ≡ number 0
 at_zeros zero z h k = refl
@@ -25,38 +32,19 @@ pub at_one : (n : ℕ) (x z : Residue) → meaning x ≡ number 1 → meaning z 
 at_one n x z h e zero = h
 at_one n x z h e (suc k) = at_zeros n z e k
 
--- the places below i hold the goal, and the others what stood there before
-pub record Written (goal before : Polynomials) (i : ℕ) (xs : List Residue) : Type 0 where
-  pub whole : length xs ≡ 25
-  pub done : (k : ℕ) → k < i → at xs k ≡ goal k
-  pub left : (k : ℕ) → i ≤ k → at xs k ≡ before k
+-- an array that calls of a closure made, each of which left the closure as it was: the polynomial whose coefficients they gave
+module _ {F : Type 0} (g : Mut F (ℕ × Unit {0}) Residue) (goal : Polynomials) (f : F) (xs : List Residue) (gives : (k : ℕ) (x : Residue) (f' : F) → k < 25 → Called g f (k, tt) x f' → (meaning x ≡ goal k) × (f' ≡ f)) where
+  made_from : (n i : ℕ) (s : F) → s ≡ f → i + n ≤ 25 → IsFromFnResultFrom g s xs i n → (k : ℕ) → i ≤ k → k < i + n → at xs k ≡ goal k
+  made_from zero i s same within made k low high = absurd (omega arith)
+  made_from (suc n) i s same within (q, y, here, call, rest) k low high =
+      let gave = gives i y q (omega arith) (subst (λ s. Called g s (i, tt) y q) same call) in
+      ⊎_elim
+      (λ less. made_from n (i + 1) q gave.1 (omega arith) rest k (omega arith) (omega arith))
+      (λ h. subst (λ j. at xs j ≡ goal j) (let e : i ≡ k = omega arith in e) (ap meaning (here.1 _) ∙ gave.0))
+      (cases_lt i k)
 
-pub written_more : {goal before : Polynomials} {i : ℕ} {xs : List Residue} (x : Residue) → Written goal before i xs → i < 25 → meaning x ≡ goal i → Written goal before (i + 1) (set xs i x)
-written_more {i = i} {xs = xs} x w within new =
-    let other : (k : ℕ) → k ≢ i → at (set xs i x) k ≡ at xs k = λ k ne. ap meaning (get_or-set_other xs i k x _ ne) in
-    record {
-      whole = length-set xs i x ∙ w.whole;
-      done = below_more _ i (λ k h. other k (omega arith) ∙ w.done k h) (ap meaning (get_or-set_same xs i x _ (omega (arith, w.whole))) ∙ new);
-      left = λ k h. other k (omega arith) ∙ w.left k (omega arith);
-    }
-
-pub written_all : {goal before : Polynomials} {i : ℕ} {xs : List Residue} → Written goal before i xs → 25 ≤ i → ((k : ℕ) → 25 ≤ k → before k ≡ goal k) → at xs ≡ goal
-written_all {i = i} w end past = fun_ext (λ k. ⊎_elim (w.done k) (λ h. w.left k h ∙ past k (omega arith)) (cases_lt k i))
-
--- place by place, an operation on what two arrays held at first
-module _ (op : Number → Number → Number) (a b : List Residue) where
-  abbrev pub Merged : ℕ → List Residue → Type 0
-  Merged = Written (λ k. op (at a k) (at b k)) (at a)
-
-  pub merged_none : length a ≡ 25 → Merged 0 a
-  merged_none whole = record { whole = whole; done = λ k h. absurd (omega arith); left = λ k h. refl }
-
-  pub merged_more : {i : ℕ} {xs : List Residue} (x : Residue) → Merged i xs → i < 25 → meaning x ≡ op (at xs i) (at b i) → Merged (i + 1) (set xs i x)
-  merged_more {i} x w within new = written_more x w within (new ∙ ap (λ y. op y (at b i)) (w.left i (omega arith)))
-
-  pub merged_all : {i : ℕ} {xs : List Residue} → Merged i xs → 25 ≤ i → length a ≡ 25 → length b ≡ 25 → (op (number 0) (number 0)).value ≡ 0 → at xs ≡ (λ k. op (at a k) (at b k))
-  merged_all w end whole same zeros =
-      written_all w end (λ k h. let past = at_past a k (omega arith) in past ∙ sym (ap (λ x. op x (at b k)) past ∙ ap (op (number 0)) (at_past b k (omega arith)) ∙ same_number zeros))
+  pub made : IsFromFnResult g f xs 25 → ((k : ℕ) → 25 ≤ k → goal k ≡ number 0) → at xs ≡ goal
+  made m past = fun_ext (λ k. ⊎_elim (made_from 25 0 f refl (omega arith) m.each k (omega arith)) (λ h. at_past xs k (omega (arith, m.long)) ∙ sym (past k h)) (cases_lt k 25))
 
 -- a shift by l: what comes to the places below l, from l to 24, and above
 module _ (l : ℕ) (f : Polynomials) (k : ℕ) where
@@ -66,5 +54,5 @@ module _ (l : ℕ) (f : Polynomials) (k : ℕ) where
   pub shifted_kept : l ≤ k → k < 25 → shifted l f k ≡ f (k - l)
   shifted_kept h within = cond-true _ _ _ (and_from _ _ (le-leb l k h) (le-leb k 24 (omega arith)))
 
-  pub shifted_high : 25 ≤ k → shifted l f k ≡ number 0
-  shifted_high h = cond-false _ _ _ (and_right _ _ (lt-leb k 24 (omega arith)))
+  pub shifted_past : 25 ≤ k → shifted l f k ≡ number 0
+  shifted_past h = cond-false _ _ _ (and_right _ _ (lt-leb k 24 (omega arith)))

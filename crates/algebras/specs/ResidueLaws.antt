@@ -1,9 +1,10 @@
 -- The laws of numbers modulo 2^64 that the models hold. Assumes nothing.
-use Rattle.std.specs.Prelude.{◌≡◌, ℕ, ◌+◌, ◌*◌, ◌/◌, ◌%◌, ◌^◌, ◌<◌, Bool, true, false, cond, refl}
+use Rattle.std.specs.Prelude.{◌≡◌, ℕ, ◌+◌, ◌*◌, ◌%◌, ◌^◌, ◌<◌, Bool, true, false, cond, refl}
 use mathlib.Core.HLevel.{is_prop→PathP}
-use Rattle.std.proofs.Common.{ap, sym, ◌∙◌, add-mul, mul_right_comm, arith}
+use Rattle.std.proofs.Common.{ap, ◌∙◌, add-mul, arith}
 use Rattle.std.proofs.Math.Bridge.{le_prop}
-use Rattle.std.proofs.Math.Nat.{add-mod, add-mul-mod_self_right, mod-add-div'}
+use Rattle.std.proofs.Math.Nat.{add-mod}
+use Rattle.std.proofs.lemmas.Nat.{mul-mod_first}
 use Rattle.algebras.specs.Residues.{Number, number, plus, minus, scaled}
 
 -- numbers are equal where their values are
@@ -22,14 +23,8 @@ plus_zero x = same_number (omega arith)
 pub minus_plus : (x y : Number) → plus (minus x y) y ≡ x
 minus_plus x y = same_number (omega arith)
 
--- a factor that is reduced before gives the same product
-pub mod_mul : (n g m : ℕ) → n % m * g % m ≡ n * g % m
-mod_mul n g m =
-    let split : n * g ≡ n % m * g + n / m * g * m = ap (λ k. k * g) (sym (mod-add-div' n m)) ∙ add-mul (n % m) (n / m * m) g ∙ ap (λ k. n % m * g + k) (mul_right_comm (n / m) m g) in
-    sym (ap (λ k. k % m) split ∙ add-mul-mod_self_right (n % m * g) (n / m * g) m)
-
 pub scaled_plus : (g : ℕ) (x y : Number) → scaled g (plus x y) ≡ plus (scaled g x) (scaled g y)
-scaled_plus g x y = same_number (mod_mul (x.value + y.value) g (2 ^ 64) ∙ ap (λ n. n % 2 ^ 64) (add-mul x.value y.value g) ∙ add-mod (x.value * g) (y.value * g) (2 ^ 64))
+scaled_plus g x y = same_number (mul-mod_first (x.value + y.value) g (2 ^ 64) ∙ ap (λ n. n % 2 ^ 64) (add-mul x.value y.value g) ∙ add-mod (x.value * g) (y.value * g) (2 ^ 64))
 
 -- a number that a test keeps or drops
 pub kept_plus : (b : Bool) (x y : Number) → cond b (plus x y) (number 0) ≡ plus (cond b x (number 0)) (cond b y (number 0))

@@ -11,11 +11,13 @@ mod count;
 mod fixed;
 mod polynomial;
 mod residue;
+mod scaling;
 
 pub use count::Count;
 pub use fixed::Fixed;
 pub use polynomial::{Coefficients, Polynomial};
 pub use residue::Residue;
+pub use scaling::Scaling;
 
 // An algebra by its model, which keeps the four laws; each operation answers by what its operands mean.
 pub trait Algebra {

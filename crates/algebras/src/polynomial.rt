@@ -5,13 +5,14 @@ ghost use Rattle.algebras.specs.Models.{polynomial_model};
 ghost use Rattle.algebras.specs.Residues.{signed};
 
 use crate::{Algebra, Residue};
+use std::array;
 use weights::{COMPONENTS, LEVELS, Rows};
 
 // How many powers are kept: from p^0 to every component at the greatest level, p^24.
 const POWERS: usize = COMPONENTS * LEVELS + 1;
 
 // A coefficient for each power that is kept, from p^0 up.
-#[derive(Clone, Copy)]
+#[derive(Clone, Copy, Debug, PartialEq, Eq)]
 pub struct Coefficients {
     of: [Residue; POWERS],
 }
@@ -21,10 +22,9 @@ impl Coefficients {
     pub fn signed(&self, power: usize) -> i64
         ensures answer { result ≡ signed (coefficients self.now power) }
     {
-        match self.of.get(power) {
-            Some(coefficient) => coefficient.signed(),
-            None => 0,
-        }
+        self.of
+            .get(power)
+            .map_or(0, |coefficient| coefficient.signed())
     }
 }
 
@@ -39,29 +39,25 @@ impl Algebra for Polynomial {
 
     fn zero() -> Coefficients {
         Coefficients {
-            of: [Residue::new(0); POWERS],
+            of: [Residue::from(0); POWERS],
         }
     }
 
     fn add(a: Coefficients, b: Coefficients) -> Coefficients {
-        let mut sum = a;
-        for (power, coefficient) in sum.of.iter_mut().enumerate() {
-            *coefficient = coefficient.plus(b.of[power]);
+        Coefficients {
+            of: array::from_fn(|power| a.of[power] + b.of[power]),
         }
-        sum
     }
 
     fn sub(a: Coefficients, b: Coefficients) -> Coefficients {
-        let mut difference = a;
-        for (power, coefficient) in difference.of.iter_mut().enumerate() {
-            *coefficient = coefficient.minus(b.of[power]);
+        Coefficients {
+            of: array::from_fn(|power| a.of[power] - b.of[power]),
         }
-        difference
     }
 
     fn start(_components: usize) -> Coefficients {
-        let mut of = [Residue::new(0); POWERS];
-        of[0] = Residue::new(1);
+        let mut of = [Residue::from(0); POWERS];
+        of[0] = Residue::from(1);
         Coefficients { of }
     }
 
@@ -74,10 +70,14 @@ impl Algebra for Polynomial {
         level: u8,
     ) -> Coefficients {
         let shift = usize::from(level);
-        let mut of = [Residue::new(0); POWERS];
-        for power in shift..POWERS {
-            of[power] = value.of[power - shift];
+        Coefficients {
+            of: array::from_fn(|power| {
+                if power < shift {
+                    Residue::from(0)
+                } else {
+                    value.of[power - shift]
+                }
+            }),
         }
-        Coefficients { of }
     }
 }

@@ -3,8 +3,10 @@ ghost use Rattle.std.specs.Prelude.{◌≡◌};
 ghost use Rattle.algebras.specs.Meanings.{meaning};
 ghost use Rattle.algebras.specs.Residues.{number, plus, minus, scaled, signed};
 
+use std::ops::{Add, Mul, Sub};
+
 // A number modulo 2^64.
-#[derive(Clone, Copy)]
+#[derive(Clone, Copy, Debug, PartialEq, Eq)]
 pub struct Residue {
     bits: u64,
 }
@@ -23,28 +25,42 @@ impl Residue {
     {
         u64::cast_signed(self.bits)
     }
+}
 
-    pub(crate) fn new(bits: u64) -> Residue
-        ensures answer { meaning result ≡ number bits }
-    {
+impl From<u64> for Residue {
+    ghost from_gives = { λ bits made. meaning made ≡ number bits };
+
+    fn from(bits: u64) -> Residue {
         Residue { bits }
     }
+}
 
-    pub(crate) fn plus(self, other: Residue) -> Residue
-        ensures answer { meaning result ≡ plus (meaning self) (meaning other) }
-    {
-        Residue::new(self.bits.wrapping_add(other.bits))
+impl Add for Residue {
+    type Output = Residue;
+
+    ghost add_gives = { λ a b sum. meaning sum ≡ plus (meaning a) (meaning b) };
+
+    fn add(self, other: Residue) -> Residue {
+        Residue::from(self.bits.wrapping_add(other.bits))
     }
+}
 
-    pub(crate) fn minus(self, other: Residue) -> Residue
-        ensures answer { meaning result ≡ minus (meaning self) (meaning other) }
-    {
-        Residue::new(self.bits.wrapping_sub(other.bits))
+impl Sub for Residue {
+    type Output = Residue;
+
+    ghost sub_gives = { λ a b difference. meaning difference ≡ minus (meaning a) (meaning b) };
+
+    fn sub(self, other: Residue) -> Residue {
+        Residue::from(self.bits.wrapping_sub(other.bits))
     }
+}
 
-    pub(crate) fn scale(self, factor: u64) -> Residue
-        ensures answer { meaning result ≡ scaled factor (meaning self) }
-    {
-        Residue::new(self.bits.wrapping_mul(factor))
+impl Mul<u64> for Residue {
+    type Output = Residue;
+
+    ghost mul_gives = { λ a factor product. meaning product ≡ scaled factor (meaning a) };
+
+    fn mul(self, factor: u64) -> Residue {
+        Residue::from(self.bits.wrapping_mul(factor))
     }
 }

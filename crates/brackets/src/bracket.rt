@@ -10,8 +10,7 @@ use crate::threshold::Threshold;
 use crate::verdict::Verdict;
 use algebras::{Algebra, Fixed, Residue};
 use needs::Kind;
-use totals::{fill_totals, total};
-use weights::Rows;
+use totals::Chances;
 
 // A unit of a pair, 2^-32 of certainty, as the ends count: in units of 2^-48.
 const PAIR_UNIT: u64 = 1 << 16;
@@ -36,7 +35,7 @@ impl Ends {
     pub fn verdict(self, threshold: Threshold) -> Verdict
         ensures answer { result ≡ verdict_of self threshold.of }
     {
-        let bound = i64::from(threshold.get()) * THRESHOLD_UNIT;
+        let bound = i64::from(u16::from(threshold)) * THRESHOLD_UNIT;
         if self.low >= bound {
             Verdict::Sound
         } else if self.high < bound {
@@ -67,12 +66,12 @@ fn best_ends(totals: &[Residue]) -> Ends
 }
 
 // The ends of the bracket at a depth: at full depth the total itself, else the best bounds so far.
-pub fn bracket_ends<K: Kind>(needs: &[K], components: usize, rows: &Rows, depth: Depth) -> Ends
-    ensures answer { result ≡ ends_of (setting components rows.now K.Kind.top) (map K.Kind.levels needs.now) depth.of }
+pub fn bracket_ends<K: Kind>(needs: &[K], chances: Chances<'_>, depth: Depth) -> Ends
+    ensures answer { result ≡ ends_of (setting chances.entry.components chances.entry.rows.now K.Kind.TOP) (map K.Kind.levels needs.now) depth.of }
 {
-    let depth = depth.get();
+    let depth = usize::from(depth);
     if depth >= needs.len() {
-        let total = total::<K, Fixed>(needs, components, rows, depth).signed();
+        let total = chances.total::<K, Fixed>(needs, depth).signed();
         return Ends {
             low: total,
             high: total,
@@ -80,6 +79,6 @@ pub fn bracket_ends<K: Kind>(needs: &[K], components: usize, rows: &Rows, depth:
     }
     let mut totals = [Fixed::zero(); Depth::MOST];
     let front = &mut totals[..depth];
-    fill_totals::<K, Fixed>(needs, components, rows, front);
+    chances.fill_totals::<K, Fixed>(needs, front);
     best_ends(front)
 }

@@ -1,6 +1,6 @@
 // The exact ends of a bracket, in units of 2^-48 of certainty.
 
-#[derive(Clone, Copy)]
+#[derive(Clone, Copy, Debug, PartialEq, Eq)]
 pub struct Ends {
     pub low: i64,
     pub high: i64,

@@ -10,9 +10,9 @@ mod trial;
 mod verdict;
 
 pub use bracket::bracket_ends;
-pub use depth::Depth;
+pub use depth::{BadDepth, Depth};
 pub use ends::Ends;
-pub use screen::{Screen, screen_of};
-pub use threshold::Threshold;
+pub use screen::Screen;
+pub use threshold::{BadThreshold, Threshold};
 pub use trial::tried_ends;
 pub use verdict::Verdict;

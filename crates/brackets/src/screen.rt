@@ -9,7 +9,7 @@ use std::num::nearest_u64_to_f64;
 const CERTAIN: f64 = 4294967296.0;
 
 // A bracket as the dispatch screen has it: each number of its pair as a share of certainty.
-#[derive(Clone, Copy)]
+#[derive(Clone, Copy, Debug, PartialEq)]
 pub struct Screen {
     pub low: f64,
     pub high: f64,
@@ -24,13 +24,14 @@ fn share_of(number: u64) -> f64
 }
 
 // The pair's numbers, each divided by 2^32; exact for numbers up to 2^53.
-pub fn screen_of(pair: (u64, u64)) -> Screen
-    ensures answer { (result.low ≡ share pair.0) × (result.high ≡ share pair.1) }
-    ensures exact { (pair.0 ≤ 2 ^ 53 → HasValue result.low false pair.0 (2 ^ 32)) × (pair.1 ≤ 2 ^ 53 → HasValue result.high false pair.1 (2 ^ 32)) }
-{
-    let (low, high) = pair;
-    Screen {
-        low: share_of(low),
-        high: share_of(high),
+impl From<(u64, u64)> for Screen {
+    ghost from_gives = { λ pair s. (s.low ≡ share pair.0) × (s.high ≡ share pair.1) × (pair.0 ≤ 2 ^ 53 → HasValue s.low false pair.0 (2 ^ 32)) × (pair.1 ≤ 2 ^ 53 → HasValue s.high false pair.1 (2 ^ 32)) };
+
+    fn from(pair: (u64, u64)) -> Screen {
+        let (low, high) = pair;
+        Screen {
+            low: share_of(low),
+            high: share_of(high),
+        }
     }
 }

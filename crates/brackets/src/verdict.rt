@@ -4,7 +4,7 @@ ghost use Rattle.brackets.specs.Words.{word};
 
 use std::fmt;
 
-#[derive(Clone, Copy)]
+#[derive(Clone, Copy, Debug, PartialEq, Eq)]
 pub enum Verdict {
     Sound,
     Attention,

@@ -1,22 +1,23 @@
 -- A book that is kept call by call, so far as the list was sent. Assumes nothing.
 use Rattle.std.proofs.Common.{◌≡◌, ℕ, suc, ◌+◌, ◌<◌, ◌≤◌, cond, leb, List, length, get_or, drop, set, sym, refl, ap, ◌∙◌, subst, inl, inr, add-one, arith, length-set, get_or-set_other, get_or-set_same, drop-drop, drop-set-lt}
 use Rattle.std.proofs.lemmas.Bool.{cases_lt, cond-true, cond-false, le-leb, lt-leb}
-use Rattle.needs.specs.Levels.{Need}
-use Rattle.algebras.specs.Model.{Model}
+use Rattle.needs.specs.declared.Kind.{Ghosts as KindGhosts}
+use Rattle.algebras.specs.declared.Algebra.{Ghosts as AlgebraGhosts}
 use Rattle.sheets.specs.Standings.{Standing, opened}
 use Rattle.calls.specs.declared.call.Call.{Call}
 use Rattle.calls.specs.declared.answer.Answer.{Answer}
-use Rattle.calls.specs.Book.{Page, page, bay, Step}
-use Rattle.calls.specs.Law.{StandsIn, Kept, Law}
+use Rattle.calls.specs.Book.{Page, page, bay}
+use Rattle.calls.specs.Law.{StandsIn, Kept}
+use Rattle.calls.specs.Pages.{StepOf, LawOf}
 use Rattle.calls.proofs.Places.{one_in_place}
 use Rattle.calls.proofs.Lawful.{lawful}
 use Rattle.calls.proofs.KeptSound.{kept_sound}
 
-module _ {K V : Type 0} (levels : K → Need) (top : ℕ) (own : Model) (means : V → own.Carrier) (places : List K) (calls : List (Call K)) (before : List (Answer K V)) where
+module _ {K A V : Type 0} (kind : KindGhosts K) (own : AlgebraGhosts A V) (places : List K) (calls : List (Call K)) (before : List (Answer K V)) where
   pub record SoFar (sent : ℕ) (here : Page K) (answers : List (Answer K V)) : Type 0 where
     pub book : ℕ → Page K
     pub opens : book 0 ≡ page bay opened places
-    pub turns : (p : ℕ) (c : Call K) → p < sent → StandsIn calls p c → (a : Answer K V) × Step levels top own means c (book p) a (book (suc p)) × (p < length answers → StandsIn answers p a)
+    pub turns : (p : ℕ) (c : Call K) → p < sent → StandsIn calls p c → (a : Answer K V) × StepOf kind own c (book p) a (book (suc p)) × (p < length answers → StandsIn answers p a)
     pub reached : here ≡ book sent
     pub untouched : (length answers ≡ length before) × (drop sent answers ≡ drop sent before)
 
@@ -34,7 +35,7 @@ module _ {K V : Type 0} (levels : K → Need) (top : ℕ) (own : Model) (means :
   new book sent next = cond-false (leb (suc sent) sent) (book (suc sent)) next (lt-leb (suc sent) sent (omega arith))
 
   pub sent_more : (sent : ℕ) (here next : Page K) (answers answers' : List (Answer K V)) (c : Call K) (a : Answer K V) → SoFar sent here answers → StandsIn calls sent c
-      → Step levels top own means c here a next → answers' ≡ set answers sent a → SoFar (sent + 1) next answers'
+      → StepOf kind own c here a next → answers' ≡ set answers sent a → SoFar (sent + 1) next answers'
   sent_more sent here next answers answers' c a so_far in_place step notes =
       let book = so_far.book in
       let long : length answers' ≡ length answers = ap length notes ∙ length-set answers sent a in
@@ -50,11 +51,11 @@ module _ {K V : Type 0} (levels : K → Need) (top : ℕ) (own : Model) (means :
               )
           | inr past ↦
               let now : sent ≡ p = omega arith in
-              subst (λ q. StandsIn calls q c' → (a' : Answer K V) × Step levels top own means c' (longer book sent next q) a' (longer book sent next (suc q)) × (q < length answers' → StandsIn answers' q a')) now
+              subst (λ q. StandsIn calls q c' → (a' : Answer K V) × StepOf kind own c' (longer book sent next q) a' (longer book sent next (suc q)) × (q < length answers' → StandsIn answers' q a')) now
               (λ in-place''. (
                 a,
-                subst (λ x. Step levels top own means x (longer book sent next sent) a (longer book sent next (suc sent))) (one_in_place calls sent c c' in_place in-place'')
-                    (simp (old book sent next sent (omega arith), new book sent next) (subst (λ b. Step levels top own means c b a next) so_far.reached step)),
+                subst (λ x. StepOf kind own x (longer book sent next sent) a (longer book sent next (suc sent))) (one_in_place calls sent c c' in_place in-place'')
+                    (simp (old book sent next sent (omega arith), new book sent next) (subst (λ b. StepOf kind own c b a next) so_far.reached step)),
                 λ within. (within, ap (λ xs. get_or xs sent a) notes ∙ get_or-set_same answers sent a a (omega arith)),
               )) in-place'
         ];
@@ -66,16 +67,16 @@ module _ {K V : Type 0} (levels : K → Need) (top : ℕ) (own : Model) (means :
       }
 
   -- the whole list was sent
-  pub law : (low : top ≤ 3) (most : (d : K) (i : ℕ) → levels d i ≤ top) (sent : ℕ) (here : Page K) (answers : List (Answer K V)) (s : Standing K) (storage : List K) → sent ≡ length calls
-      → SoFar sent here answers → s ≡ here.standing → storage ≡ here.storage → Law levels top own means places calls before answers s storage
+  pub law : (low : kind.TOP ≤ 3) (most : (d : K) (i : ℕ) → kind.levels d i ≤ kind.TOP) (sent : ℕ) (here : Page K) (answers : List (Answer K V)) (s : Standing K) (storage : List K) → sent ≡ length calls
+      → SoFar sent here answers → s ≡ here.standing → storage ≡ here.storage → LawOf kind own places calls before answers s storage
   law low most sent here answers s storage all so_far stands stores =
-      let kept : Kept levels top own means places calls answers so_far.book = record { opens = so_far.opens; turns = λ p c in_place. so_far.turns p c (omega (arith, in_place.0)) in_place } in
+      let kept : Kept kind.levels kind.TOP own.model own.means places calls answers so_far.book = record { opens = so_far.opens; turns = λ p c in_place. so_far.turns p c (omega (arith, in_place.0)) in_place } in
       let reached = so_far.reached ∙ ap so_far.book all in
       record {
         book = so_far.book;
         kept = kept;
         stands = stands ∙ ap (λ b. b.standing) reached;
         stores = stores ∙ ap (λ b. b.storage) reached;
-        lawful = lawful levels top own means low most places calls answers so_far.book kept (kept_sound levels top own means places calls answers so_far.book kept);
+        lawful = lawful kind.levels kind.TOP own.model own.means low most places calls answers so_far.book kept (kept_sound kind.levels kind.TOP own.model own.means places calls answers so_far.book kept);
         untouched = subst (λ n. (length answers ≡ length before) × (drop n answers ≡ drop n before)) all so_far.untouched;
       }

@@ -1,31 +1,20 @@
 -- Steps of the book, from what the calls of a sheet promise. Assumes nothing.
-use Rattle.std.proofs.Common.{◌≡◌, ℕ, Bool, true, false, cond, List, map, is_ok, Ok, Err, Result, sym, refl, ap, ◌∙◌, subst, arith, MatchResult}
-use Rattle.needs.specs.Levels.{Need}
-use Rattle.algebras.specs.Model.{Model}
+use Rattle.std.proofs.Common.{◌≡◌, ℕ, Bool, true, false, List, map, IsErrAnd, Result, sym, refl, ap, ◌∙◌, subst, arith}
+use Rattle.std.proofs.lemmas.Result.{err_from_is_err_and}
+use Rattle.needs.specs.declared.Kind.{Ghosts as KindGhosts}
+use Rattle.algebras.specs.declared.Algebra.{Ghosts as AlgebraGhosts}
 use Rattle.sheets.specs.Standings.{Standing}
 use Rattle.sheets.specs.Causes.{First, ToldPlace}
 use Rattle.sheets.specs.Refusals.{number, place}
-use Rattle.sheets.specs.Sheets.{Outcome}
 use Rattle.sheets.specs.declared.refusal.Refusal.{Refusal}
-use Rattle.calls.specs.declared.call.AlgebraName.{AlgebraName}
-use Rattle.calls.specs.declared.call.AlgebraName.TheVariants.{Own}
 use Rattle.calls.specs.declared.call.Call.{Call}
 use Rattle.calls.specs.declared.call.Call.TheVariants.{Size, Set, SetByReadings, Fit, Strike, PutOut, Find, Total, Bracket, Judge, Try, CallIn}
 use Rattle.calls.specs.declared.answer.Answer.{Answer}
-use Rattle.calls.specs.declared.answer.Answer.TheVariants.{Refused}
-use Rattle.calls.specs.Book.{Side, road, page, taken_in, turned, Answers, causes_at, Told, Step}
-use Rattle.calls.specs.Book.Step.{refused, accepted}
+use Rattle.calls.specs.Book.{Side, page, taken_in, causes_at, Told}
+use Rattle.calls.specs.Book.Step.{refused}
+use Rattle.calls.specs.Pages.{answer_of, StepOf}
 
--- two things that hold of a result
-both : {T : Type 0} (P P' : T → Type 0) (Q Q' : Refusal → Type 0) (r : Result T Refusal) → MatchResult r P Q → MatchResult r P' Q' → MatchResult r (λ x. P x × P' x) (λ e. Q e × Q' e)
-both P P' Q Q' (Ok x) p q = (p, q)
-both P P' Q Q' (Err e) p q = (p, q)
-
-pub unchanged : {X : Type 0} (b : Bool) {x y : X} → y ≡ x → y ≡ cond b x x
-unchanged true is = is
-unchanged false is = is
-
-module _ {K V : Type 0} (levels : K → Need) (top : ℕ) (own : Model) (means : V → own.Carrier) where
+module _ {K A V : Type 0} (kind : KindGhosts K) (own : AlgebraGhosts A V) where
   abbrev fits : Call K → Bool
   fits (Size n) = false
   fits (Set i row) = false
@@ -40,41 +29,28 @@ module _ {K V : Type 0} (levels : K → Need) (top : ℕ) (own : Model) (means :
   fits (Try i what r) = false
   fits CallIn = false
 
-  -- only a fit tells a place
-  no_place : (c : Call K) (s : Standing K) (e : Refusal) → fits c ≡ false → Told levels top own means c s e
-  no_place c s e other d is = let clash : true ≡ false = sym (ap fits is) ∙ other in let z : ◌≡◌ {A = ℕ} 0 1 = cc in absurd (omega arith)
+  abbrev CausesAt : Side → Standing K → List K → Call K → List (ℕ × Type 0)
+  CausesAt side s storage = causes_at kind.levels kind.TOP own.model own.means (page side s storage)
 
-  fit_place : (d : K) (s : Standing K) (e : Refusal) → ToldPlace (map levels s.needs) (levels d) (place e) → Told levels top own means (Fit d) s e
-  fit_place d s e told d' is = let same : d ≡ d' = cc in subst (λ x. ToldPlace (map levels s.needs) (levels x) (place e)) same told
+  abbrev Tells : Call K → Standing K → Refusal → Type 0
+  Tells = Told kind.levels kind.TOP own.model own.means
 
-  -- a call that leads from one page to another if it is accepted, and else leaves the page
-  module _ {T : Type 0} (r : Result T Refusal) (side : Side) (s s' next : Standing K) (storage storage' written : List K) (a : Answer K V)
-      (stands : s' ≡ cond (is_ok r) next s) (stores : storage' ≡ cond (is_ok r) written storage) where
-    pub step : (call c : Call K) → call ≡ c → taken_in c ≡ side → turned top c (page side s storage) ≡ page side next written → Outcome r (causes_at levels top own means (page side s storage) c)
-        → (P : T → Type 0) (Q : Refusal → Type 0) → MatchResult r P Q → ((x : T) → P x → Answers levels top own means s c a) → ((e : Refusal) → Q e → (a ≡ Refused e) × Told levels top own means c s e)
-        → Step levels top own means call (page side s storage) a (page side s' storage')
-    step call c is here leads outcome P Q cases answers tells =
-        subst (λ x. Step levels top own means x (page side s storage) a (page side s' storage')) (sym is) (by r stands stores outcome cases)
-      where
-        by : (r : Result T Refusal) → s' ≡ cond (is_ok r) next s → storage' ≡ cond (is_ok r) written storage → Outcome r (causes_at levels top own means (page side s storage) c) → MatchResult r P Q
-            → Step levels top own means c (page side s storage) a (page side s' storage')
-        by (Ok x) stands stores none p = accepted here none (answers x p) (ap (λ t. page side t storage') stands ∙ ap (page side next) stores ∙ sym leads)
-        by (Err e) stands stores first q = refused here e first (tells e q).1 (tells e q).0 (ap (λ t. page side t storage') stands ∙ ap (page side s) stores)
+  -- a call that is refused leaves the page
+  module _ (side : Side) (s s' : Standing K) (storage storage' : List K) (e : Refusal) (r : Result (Answer K V) Refusal) (returned : IsErrAnd r (λ x. x ≡ e))
+      (stands : s' ≡ s) (stores : storage' ≡ storage) (call : Call K) where
+    abbrev Goal : Type 0
+    Goal = StepOf kind own call (page side s storage) (answer_of r) (page side s' storage')
 
-    -- the answer is made from what a call of the sheet answers, which is P, or tells why it is refused, which is Q
-    module _ (call c : Call K) (is : call ≡ c) (here : taken_in c ≡ side) (leads : turned top c (page side s storage) ≡ page side next written)
-        (outcome : Outcome r (causes_at levels top own means (page side s storage) c)) (P : T → Type 0) (Q : Refusal → Type 0) (made : T → Answer K V)
-        (promised : MatchResult r P Q) (answered : MatchResult r (λ x. a ≡ made x) (λ e. a ≡ Refused e)) (answers : (x : T) → P x → a ≡ made x → Answers levels top own means s c a) where
-      pub step_told : fits c ≡ false → Step levels top own means call (page side s storage) a (page side s' storage')
-      step_told other =
-          step call c is here leads outcome _ _ (both P (λ x. a ≡ made x) Q (λ e. a ≡ Refused e) r promised answered) (λ x p. answers x p.0 p.1) (λ e q. (q.1, no_place c s e other))
+    step : (c : Call K) → call ≡ c → taken_in c ≡ side → First (CausesAt side s storage c) (number e) → Tells c s e → Goal
+    step c is here first told =
+        let p = err_from_is_err_and r returned in
+        rw (p.1, p.2, is) (refused here e first told refl (ap (λ t. page side t storage') stands ∙ ap (page side s) stores))
 
-      pub step_fit : (d : K) → c ≡ Fit d → ((e : Refusal) → Q e → ToldPlace (map levels s.needs) (levels d) (place e)) → Step levels top own means call (page side s storage) a (page side s' storage')
-      step_fit d fits-it told =
-          step call c is here leads outcome _ _ (both P (λ x. a ≡ made x) Q (λ e. a ≡ Refused e) r promised answered) (λ x p. answers x p.0 p.1)
-          (λ e q. (q.1, subst (λ x. Told levels top own means x s e) (sym fits-it) (fit_place d s e (told e q.0))))
+    -- only a fit tells a place
+    pub step_refused : (c : Call K) → call ≡ c → taken_in c ≡ side → fits c ≡ false → First (CausesAt side s storage c) (number e) → Goal
+    step_refused c is here other first =
+        step c is here first (λ d fit. let clash : true ≡ false = sym (ap fits fit) ∙ other in let z : ◌≡◌ {A = ℕ} 0 1 = cc in absurd (omega arith))
 
-  -- the cause of a total's refusal is the same in every algebra
-  pub total_refused : (algebra : AlgebraName) (r : ℕ) (s : Standing K) (storage : List K) (e : Refusal) → First (causes_at levels top own means (page road s storage) (Total Own r)) (number e)
-      → Step levels top own means (Total algebra r) (page road s storage) (Refused e) (page road s storage)
-  total_refused algebra r s storage e first = refused refl e first (no_place (Total algebra r) s e refl) refl refl
+    pub step_unfit : (d : K) → call ≡ Fit d → taken_in (Fit d) ≡ side → ToldPlace (map kind.levels s.needs) (kind.levels d) (place e) → First (CausesAt side s storage (Fit d)) (number e) → Goal
+    step_unfit d is here told first =
+        step (Fit d) is here first (λ d' fit. let same : d ≡ d' = cc in subst (λ x. ToldPlace (map kind.levels s.needs) (kind.levels x) (place e)) same told)

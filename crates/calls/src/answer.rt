@@ -3,7 +3,7 @@ use algebras::{Coefficients, Residue};
 use brackets::Verdict;
 use sheets::Refusal;
 
-#[derive(Clone, Copy)]
+#[derive(Clone, Copy, PartialEq, Eq, Debug)]
 pub enum Answer<K, V> {
     // size, both sets, put out, call in
     Done,

@@ -4,7 +4,7 @@ use sheets::Supposed;
 use weights::Row;
 
 // The algebra of a total: one of three, or the caller's own.
-#[derive(Clone, Copy)]
+#[derive(Clone, Copy, PartialEq, Eq, Debug)]
 pub enum AlgebraName {
     Fixed,
     Polynomial,
@@ -12,7 +12,7 @@ pub enum AlgebraName {
     Own,
 }
 
-#[derive(Clone, Copy)]
+#[derive(Clone, Copy, PartialEq, Debug)]
 pub enum Call<K> {
     // in the bay
     Size(usize),

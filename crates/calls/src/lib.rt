@@ -1,7 +1,7 @@
 // Lists of calls, sent to one sheet one after another, and the law that every list keeps.
 #![tactic(auto)]
 
-ghost use Rattle.calls.specs.Law.{OneBook};
+ghost use Rattle.calls.specs.Pages.{OneBookOf};
 
 use algebras::Algebra;
 use needs::Kind;
@@ -14,9 +14,9 @@ mod sheet;
 
 pub use answer::Answer;
 pub use call::{AlgebraName, Call};
-pub use list::{Last, replay};
+pub use list::replay;
 
 // There is one book to a list of calls.
 pub fn one_book<K: Kind, A: Algebra>()
-    ensures theorem { OneBook K.Kind.levels K.Kind.top A.Algebra.model A.Algebra.means }
+    ensures theorem { OneBookOf K.Kind A.Algebra }
 {}

@@ -2,9 +2,7 @@
 ghost use Rattle.std.specs.Prelude.{◌≡◌, MatchResult, slice_set};
 ghost use Rattle.sheets.specs.Sheets.{road_standing, road_storage, road_causes, Outcome};
 ghost use Rattle.sheets.specs.Causes.Call.{total as total_asked};
-ghost use Rattle.calls.specs.Book.{Totals};
-ghost use Rattle.calls.specs.Law.{Law};
-ghost use Rattle.calls.specs.Pages.{page_of};
+ghost use Rattle.calls.specs.Pages.{page_of, TotalsOf, LawOf};
 
 use crate::answer::Answer;
 use crate::call::Call;
@@ -13,13 +11,6 @@ use crate::sheet::Sheet;
 use algebras::Algebra;
 use needs::Kind;
 use sheets::{BaySheet, Refusal, RoadSheet};
-
-// The place of the total that is asked for last, and whether it was refused; then the total is as it was.
-#[derive(Clone, Copy)]
-pub struct Last<V> {
-    pub total: V,
-    pub outcome: Result<(), Refusal>,
-}
 
 // Keeps an answer in its place, if there is one.
 fn keep<T: Copy>(answers: &mut [T], place: usize, answer: T)
@@ -48,30 +39,31 @@ fn send_all<'a, K: Kind, A: Algebra>(
     calls: &[Call<K>],
     answers: &mut [Answer<K, A::Value>],
 ) -> RoadSheet<'a, K>
-    ensures law { Law K.Kind.levels K.Kind.top A.Algebra.model A.Algebra.means places.old calls.now answers.old answers.new (road_standing result) (road_storage result) }
+    ensures law { LawOf K.Kind A.Algebra places.old calls.now answers.old answers.new (road_standing result) (road_storage result) }
 {
     let mut sheet = Sheet::Bay(BaySheet::open(places));
     for (i, call) in calls.iter().enumerate() {
-        let mut answer = Answer::Elsewhere;
-        sheet = send::<K, A>(sheet, *call, &mut answer);
+        let (after, answer) = send::<K, A>(sheet, *call);
+        sheet = after;
         keep(answers, i, answer);
     }
     on_road(sheet)
 }
 
-// Sends a list of calls to a sheet that is opened on the places, and then asks the sheet, on the road, for one total more.
+// Sends a list of calls to a sheet that is opened on the places, and then asks the sheet, on the road, for one total more: the
+// sheet, and whether the total was refused. A refused total leaves its place as it was.
 pub fn replay<'a, K: Kind, A: Algebra>(
     places: &'a mut [K],
     calls: &[Call<K>],
     answers: &mut [Answer<K, A::Value>],
     depth: u8,
-    last: &mut Last<A::Value>,
-) -> RoadSheet<'a, K>
-    ensures law { Law K.Kind.levels K.Kind.top A.Algebra.model A.Algebra.means places.old calls.now answers.old answers.new (road_standing result) (road_storage result) }
-    ensures refused { Outcome last.new.outcome (road_causes K.Kind result (total_asked depth)) }
-    ensures answer { MatchResult last.new.outcome (λ _. Totals K.Kind.levels K.Kind.top A.Algebra.model A.Algebra.means A.Algebra.model (road_standing result) depth (A.Algebra.means last.new.total)) (λ _. last.new.total ≡ last.old.total) }
+    total: &mut A::Value,
+) -> (RoadSheet<'a, K>, Result<(), Refusal>)
+    ensures law { LawOf K.Kind A.Algebra places.old calls.now answers.old answers.new (road_standing result.0) (road_storage result.0) }
+    ensures refused { Outcome result.1 (road_causes K.Kind result.0 (total_asked depth)) }
+    ensures answer { MatchResult result.1 (λ _. TotalsOf K.Kind A.Algebra (road_standing result.0) depth total.new) (λ _. total.new ≡ total.old) }
 {
     let sheet = send_all::<K, A>(places, calls, answers);
-    last.outcome = sheet.total::<A>(depth, &mut last.total);
-    sheet
+    let outcome = sheet.total::<A>(depth, total);
+    (sheet, outcome)
 }

@@ -10,20 +10,15 @@ use needs::Kind;
 pub fn same_place<K: Kind>(held: &[K], need: K) -> Option<usize>
     ensures answer { MatchOption result ((p : ℕ) → SameAt (map K.Kind.levels held.now) (K.Kind.levels need) p → ⊥) (Lowest (SameAt (map K.Kind.levels held.now) (K.Kind.levels need))) }
 {
-    for (place, other) in held.iter().enumerate() {
-        if need.same(*other) {
-            return Some(place);
-        }
-    }
-    None
+    held.iter().position(|other| need.same(*other))
 }
 
 // Takes what stands in a place out: what stands behind it moves down by one, and the last place keeps what it holds.
+// A place past the end leaves the row as it is.
 pub fn close_up<T: Copy>(row: &mut [T], place: usize)
     ensures after { row.new ≡ closed_up row.old place }
 {
-    let last = row.len().saturating_sub(1);
-    for i in place..last {
-        row[i] = row[i + 1];
+    if place < row.len() {
+        row.copy_within(place + 1.., place);
     }
 }

@@ -7,7 +7,8 @@ use Rattle.needs.specs.Levels.{Need}
 use Rattle.weights.specs.Chances.{chance}
 use Rattle.algebras.specs.Model.{Model}
 use Rattle.algebras.specs.Residues.{number}
-use Rattle.algebras.specs.ResidueLaws.{same_number, mod_mul}
+use Rattle.std.proofs.lemmas.Nat.{mul-mod_first}
+use Rattle.algebras.specs.ResidueLaws.{same_number}
 use Rattle.algebras.specs.Models.{fixed_model}
 use Rattle.totals.specs.Choices.{Setting}
 use Rattle.totals.proofs.Groups.{minus_from}
@@ -75,5 +76,5 @@ exact_weight s x proper = walked_natural exact_model s pos (λ a b. refl) refl (
 
 pub fixed_weight : (s : Setting) (x : State) → Proper s → state_weight fixed_model s x ≡ number (natural_weight s x)
 fixed_weight s x proper =
-    walked_natural fixed_model s number (λ a b. same_number (add-mod a b (2 ^ 64))) refl (λ i l k. same_number (mod_mul k (chance s.card i l) (2 ^ 64)))
+    walked_natural fixed_model s number (λ a b. same_number (add-mod a b (2 ^ 64))) refl (λ i l k. same_number (mul-mod_first k (chance s.card i l) (2 ^ 64)))
     (reach_falls s proper) x 0 (natural_start s)

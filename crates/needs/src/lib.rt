@@ -1,8 +1,8 @@
 // Needs: the least level that a route asks of each component, coded in one number.
 #![tactic(auto)]
 
-ghost use Rattle.std.specs.Prelude.{◌≡◌, ℕ, ◌≤◌, Decides};
-ghost use Rattle.needs.specs.Levels.{join as joined, Covers, Same, digit};
+ghost use Rattle.std.specs.Prelude.{◌≡◌, ℕ, ◌<◌, ◌≤◌, ◌^◌, Decides};
+ghost use Rattle.needs.specs.Levels.{join as joined, Covers, Same, digit, width};
 ghost use Rattle.std.proofs.Common.{rules};
 
 // How many components a need speaks of.
@@ -12,14 +12,11 @@ pub const WIDTH: usize = 16;
 pub trait Kind: Copy {
     const TOP: u8;
 
-    ghost top: { ℕ };
+    // the same number, for clauses
+    ghost TOP: { ℕ };
 
     // the need that a code stands for
     ghost levels: { Self → ℕ → ℕ };
-
-    // The top level. (A clause cannot read the constant, so this says what it is.)
-    fn top_level() -> u8
-        ensures answer { result ≡ top };
 
     fn level(self, component: usize) -> u8
         ensures answer { result ≡ levels self component };
@@ -30,37 +27,40 @@ pub trait Kind: Copy {
     fn covers(self, other: Self) -> bool
         ensures answer { Decides result (Covers (levels self) (levels other)) }
     {
-        for i in 0..WIDTH {
-            if self.level(i) < other.level(i) {
-                return false;
-            }
-        }
-        true
+        (0..WIDTH).all(|i| self.level(i) >= other.level(i))
     }
 
     fn same(self, other: Self) -> bool
         ensures answer { Decides result (Same (levels self) (levels other)) }
     {
-        for i in 0..WIDTH {
-            if self.level(i) != other.level(i) {
-                return false;
-            }
-        }
-        true
+        (0..WIDTH).all(|i| self.level(i) == other.level(i))
     }
 
-    ghost top_least: { 1 ≤ top };
+    ghost top_least: { 1 ≤ TOP };
 
-    ghost top_most: { top ≤ 3 };
+    ghost top_most: { TOP ≤ 3 };
 
-    ghost levels_most: { (d : Self) (i : ℕ) → levels d i ≤ top };
+    ghost levels_most: { (d : Self) (i : ℕ) → levels d i ≤ TOP };
+}
+
+// The digit of BITS bits that a code has at a component, the lowest first; it has none past the width.
+fn digit_at<const BITS: usize>(code: u32, component: usize) -> u8
+    requires most { BITS ≤ 2 }
+    requires within { code < (2 ^ BITS) ^ width }
+    ensures answer { result ≡ digit (2 ^ BITS) code component }
+{
+    if component < WIDTH {
+        ((code >> (BITS * component)) & ((1 << BITS) - 1)) as u8
+    } else {
+        0
+    }
 }
 
 // Plain needs: component i is needed (level 1) where bit i is set.
 impl Kind for u16 {
     const TOP: u8 = 1;
 
-    ghost top = { 1 };
+    ghost TOP = { 1 };
 
     ghost levels = { digit 2 };
 
@@ -70,16 +70,8 @@ impl Kind for u16 {
 
     ghost levels_most = { Prim.search rules };
 
-    fn top_level() -> u8 {
-        Self::TOP
-    }
-
     fn level(self, component: usize) -> u8 {
-        if component < WIDTH {
-            ((self >> component) & 1) as u8
-        } else {
-            0
-        }
+        digit_at::<1>(u32::from(self), component)
     }
 
     fn join(self, other: u16) -> u16 {
@@ -91,7 +83,7 @@ impl Kind for u16 {
 impl Kind for u32 {
     const TOP: u8 = 3;
 
-    ghost top = { 3 };
+    ghost TOP = { 3 };
 
     ghost levels = { digit 4 };
 
@@ -101,24 +93,14 @@ impl Kind for u32 {
 
     ghost levels_most = { Prim.search rules };
 
-    fn top_level() -> u8 {
-        Self::TOP
-    }
-
     fn level(self, component: usize) -> u8 {
-        if component < WIDTH {
-            ((self >> (2 * component)) & 3) as u8
-        } else {
-            0
-        }
+        digit_at::<2>(self, component)
     }
 
     fn join(self, other: u32) -> u32 {
-        let mut joined = 0;
-        for i in 0..WIDTH {
+        (0..WIDTH).fold(0, |joined, i| {
             let level = self.level(i).max(other.level(i));
-            joined |= u32::from(level) << (2 * i);
-        }
-        joined
+            joined | u32::from(level) << (2 * i)
+        })
     }
 }

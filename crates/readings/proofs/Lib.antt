@@ -1,3 +1,5 @@
+pub mod Order
 pub mod Chances
 pub mod Scaling
 pub mod Filling
+pub mod Descent

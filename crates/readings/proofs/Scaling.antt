@@ -1,14 +1,17 @@
 -- Sixty-four times a chance is exact, and compares with a whole number as its whole part does. Assumes nothing.
-use Rattle.std.proofs.Common.{◌≡◌, ℕ, zero, suc, ◌+◌, ◌-◌, ◌*◌, ◌/◌, ◌^◌, ◌<◌, ◌≤◌, Bool, true, false, ltb, ℤ, pos, negsuc, sym, refl, ap, ◌∙◌, subst, inl, inr, true≢false, lt_of_lt_of_le, div-lt_iff_lt-mul, lt_of_mul-lt-mul_right, mul-lt-mul_of_pos_right, mul-one, le-mul_of_pos_right, arith, lit≤, pow_pos, pow_mono, pow-add, shl_lt}
+use Rattle.std.proofs.Common.{◌≡◌, ℕ, zero, suc, ◌+◌, ◌-◌, ◌*◌, ◌/◌, ◌^◌, ◌<◌, ◌≤◌, Bool, true, false, ltb, ℤ, pos, negsuc, sym, refl, ap, ◌∙◌, inl, inr, true≢false, lt_of_lt_of_le, div-lt_iff_lt-mul, lt_of_mul-lt-mul_right, mul-lt-mul_of_pos_right, mul-one, le-mul_of_pos_right, arith, lit≤, pow_pos, pow_mono, pow-add, shl_lt}
 use lib.Pow.{pow-lt}
-use lib.Ieee.{Float, nan, inf, fin, Format, binary32, binary64, prec, emax, low, up, down, unlike, round, mul, of_int, lt, of_bits, fits}
+use lib.Ieee.{Float, nan, inf, fin, Format, binary32, binary64, prec, emax, low, up, down, unlike, round, mul, of_int, lt, le, is_nan, of_bits, fits}
 use lib.Ieee.Fits.{down_pos}
 use lib.Ieee.Exact.{HasValue, round_exact}
 use lib.Ieee.Back.{round_whole}
 use lib.Ieee.Nearest.{div_same}
 use Rattle.std.proofs.lemmas.Bool.{and_parts, cases_lt, ltb-true, leb-true, eqb-true}
 use Rattle.std.proofs.lemmas.Bool.Decides.{nat_tests}
+use lib.Dec.{leb}
+use Rattle.std.specs.Float.{NotNan}
 use Rattle.readings.specs.Readings.{IsChance, sixty_fourths}
+use Rattle.readings.proofs.Order.{le_is_not_lt}
 
 -- ---- a fraction and a whole number
 
@@ -81,12 +84,22 @@ times_64 s m (pos k) fit chance = rw (same_sign s) (exact binary64 s (m * 2 ^ k)
 times_64 s m (negsuc k) fit chance =
     rw (same_sign s, mul-one (2 ^ suc k)) (exact binary64 s (m * 1) (suc k) (omega (arith, digits binary64 s m (negsuc k) fit)) (last_place binary64 s m k fit))
 
--- y is the whole number w as a float
-pub scaled_below : (p y : Float) (w : ℕ) → fits binary64 p ≡ true → IsChance p → w ≤ 64 → y ≡ of_int binary64 (pos w)
-    → lt (mul binary64 p (of_bits binary64 0x4050_0000_0000_0000)) y ≡ ltb (sixty_fourths p) w
+-- ---- the test of a weight
+
+not_nan : (x : Float) (s : Bool) (a c : ℕ) → HasValue x s a c → NotNan x
+unfolding is_nan
+not_nan nan s a c is = absurd is
+not_nan (inf t) s a c is = absurd is
+not_nan (fin t m e) s a c is = tt
+
+-- w as a float is at most 64 times p
+pub scaled_most : (p : Float) (w : ℕ) → fits binary64 p ≡ true → IsChance p → w ≤ 64
+    → le (of_int binary64 (pos w)) (mul binary64 p (of_bits binary64 0x4050_0000_0000_0000)) ≡ leb w (sixty_fourths p)
 unfolding of_int
-scaled_below nan y w fit chance most is = absurd chance
-scaled_below (inf s) y w fit chance most is = absurd chance
-scaled_below (fin s m e) y w fit chance most is =
-    lt_whole _ y s (m * up e * 64) (down e) w (down_pos e) (λ minus. omega (arith, ap (λ k. k * up e) (chance.0 minus))) (times_64 s m e fit chance)
-    (subst (λ x. HasValue x false w 1) (sym is) (round_whole binary64 false w (omega arith)))
+scaled_most nan w fit chance most = absurd chance
+scaled_most (inf s) w fit chance most = absurd chance
+scaled_most (fin s m e) w fit chance most =
+    let product = times_64 s m e fit chance in
+    let whole = round_whole binary64 false w (omega arith) in
+    le_is_not_lt _ _ (not_nan _ _ _ _ product) (not_nan _ _ _ _ whole) _ _ (lt_whole _ _ s (m * up e * 64) (down e) w (down_pos e) (λ minus. omega (arith, ap (λ k. k * up e) (chance.0 minus))) product whole) refl
+    ∙ grind (arith, nat_tests)

@@ -15,17 +15,15 @@ pub fn weight_of(reading: f64) -> Option<u16>
     ensures answer { MatchOption result (IsChance reading → ⊥) (λ w. IsChance reading × (w ≡ sixty_fourths reading)) }
     ensures largest { IfSome result (λ w. AtMost w reading × ((v : ℕ) → AtMost v reading → v ≤ w)) }
 {
-    if reading.is_nan() || reading < 0.0 || reading > 1.0 {
+    if !(0.0..=1.0).contains(&reading) {
         return None;
     }
     // Exact, since 64 is a power of two and the reading is at most 1.
     let scaled = reading * 64.0;
     // A cast would have to drop a fraction: weights are tried from certainty down instead.
-    let mut weight = CERTAIN;
-    while f64::from(weight) > scaled {
-        weight -= 1;
-    }
-    Some(weight)
+    (0..=CERTAIN)
+        .rev()
+        .find(|weight| f64::from(*weight) <= scaled)
 }
 
 // The weights of the readings up to the top; readings above it are not read, and their weights are noted as 0.
@@ -33,10 +31,9 @@ pub fn row_of(readings: &Readings, top: u8) -> Option<Row>
     ensures answer { MatchOption result (AreChances top readings.now → ⊥) (λ row. AreChances top readings.now × (row ≡ trimmed top (map sixty_fourths readings.now))) }
 {
     let mut row = [0; LEVELS];
-    for (place, reading) in readings.iter().enumerate() {
-        if place < usize::from(top) {
-            row[place] = weight_of(*reading)?;
-        }
+    let read = row.len().min(usize::from(top));
+    for (place, reading) in readings[..read].iter().enumerate() {
+        row[place] = weight_of(*reading)?;
     }
     Some(row)
 }

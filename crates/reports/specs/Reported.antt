@@ -2,18 +2,18 @@
 --
 -- longest    a report takes files of at most 4096 bytes; a longer one is refused unread
 -- kind       a file whose byte 2 is 2 is read as graded, any other as plain
-use Rattle.std.specs.Prelude.{◌≡◌, ℕ, ◌<◌, ◌≤◌, List, ◌++◌, length, replicate, codes, decimal, ◌≢◌, slice_index}
+use Rattle.std.specs.Prelude.{◌≡◌, ℕ, ◌<◌, ◌≤◌, List, ◌++◌, length, replicate, codes, ◌≢◌, slice_index}
 use Rattle.needs.specs.Levels.{digit}
 use Rattle.sheets.specs.Standings.{Standing}
 use Rattle.sheets.specs.Refusals.{number}
 use Rattle.sheet_file.specs.Layout.{Form, form, big_endian}
-use Rattle.sheet_file.specs.Layers.{layer_of, word}
+use Rattle.sheet_file.specs.Texts.{fault_text}
 use Rattle.sheet_file.specs.Faults.{Read, Faulty}
 use Rattle.sheet_file.specs.declared.fault.Fault.{Fault}
 use Rattle.reports.specs.Lines.{newline, report_text}
 
 abbrev pub fault_line : (number «record» byte : ℕ) → List ℕ
-fault_line n r b = codes "fault " ++ (decimal n ++ (codes " " ++ (word (layer_of n) ++ (codes " " ++ (decimal r ++ (codes " " ++ (decimal b ++ newline)))))))
+fault_line n r b = fault_text n r b ++ newline
 
 pub data ReportedAs {K : Type 0} (f : Form K) (kind : List ℕ) (storage : List K) (input text : List ℕ) : Type 0 where
   whole : (t : ℕ) (s : Standing K) (places : List K) → Read f storage input t s places → text ≡ report_text f.levels f.top s kind t → ReportedAs f kind storage input text

@@ -1,108 +1,62 @@
-// The lines of a report, each added to the text so far.
-ghost use Rattle.std.specs.Prelude.{◌≡◌, ℕ, ◌+◌, ◌≤◌, ◌++◌, string_bytes, codes, OnOk};
-ghost use Rattle.std.specs.Fmt.{signed_decimal};
-ghost use Rattle.algebras.specs.Meanings.{coefficients as polynomial_of};
-ghost use Rattle.algebras.specs.Residues.{signed as signed_of};
+// The lines of a report on a sheet, each added to the text so far.
+ghost use Rattle.std.specs.Prelude.{◌≡◌, ◌++◌, string_bytes, OnOk};
 ghost use Rattle.sheets.specs.Answers.{road_ends};
 ghost use Rattle.sheets.specs.Sheets.{road_standing};
-ghost use Rattle.reports.specs.Lines.{sheet_line, depth_line, depth_lines, poly_line, coefficients, states_line};
+ghost use Rattle.reports.specs.Lines.{depth_line, depth_lines, polynomial_line};
 
-use algebras::Coefficients;
+use algebras::Polynomial;
+use brackets::{Depth, Threshold};
 use needs::Kind;
 use sheets::RoadSheet;
-use std::fmt;
-use std::fmt::Write;
-
-pub(crate) fn push_sheet(
-    text: &mut String,
-    kind: &str,
-    components: usize,
-    threshold: u16,
-) -> fmt::Result
-    ensures after { OnOk result (string_bytes text.new ≡ string_bytes text.old ++ sheet_line kind.now components threshold) }
-{
-    write!(text, "sheet {kind} {components} {threshold}\n")?;
-    Ok(())
-}
+use std::alloc::AllocError;
 
 fn push_depth<K: Kind>(
     text: &mut String,
     sheet: &RoadSheet<'_, K>,
-    threshold: u16,
-    depth: u8,
-) -> fmt::Result
-    requires least { 1 ≤ depth }
-    requires most { depth ≤ 12 }
-    requires threshold { threshold ≤ 32768 }
-    ensures after { OnOk result (string_bytes text.new ≡ string_bytes text.old ++ depth_line (road_ends K.Kind.levels K.Kind.top (road_standing sheet.now) depth) threshold depth) }
+    threshold: Threshold,
+    depth: Depth,
+) -> Result<(), AllocError>
+    ensures after { OnOk result (string_bytes text.new ≡ string_bytes text.old ++ depth_line (road_ends K.Kind.levels K.Kind.TOP (road_standing sheet.now) depth.of) threshold.of depth.of) }
 {
-    let Ok((low, high)) = sheet.bracket(depth) else {
-        unreachable()
-    };
-    let Ok(verdict) = sheet.judge(depth, threshold) else {
-        unreachable()
-    };
-    write!(text, "depth {depth} {low} {high} {verdict}\n")?;
-    Ok(())
+    let (low, high) = sheet.bracket_at(depth);
+    let verdict = sheet.judge_at(depth, threshold);
+    let depth = u8::from(depth);
+    writeln!(text, "depth {depth} {low} {high} {verdict}")
 }
 
 // The lines of all depths up to the last one.
+#[tactic(auto, using(crate::proofs::Texts::depths_more))]
 pub(crate) fn push_depths<K: Kind>(
     text: &mut String,
     sheet: &RoadSheet<'_, K>,
-    threshold: u16,
-    last: u8,
-) -> fmt::Result
-    requires most { last ≤ 12 }
-    requires threshold { threshold ≤ 32768 }
-    ensures after { OnOk result (string_bytes text.new ≡ string_bytes text.old ++ depth_lines (road_ends K.Kind.levels K.Kind.top (road_standing sheet.now)) threshold last) }
+    threshold: Threshold,
+    last: Depth,
+) -> Result<(), AllocError>
+    ensures after { OnOk result (string_bytes text.new ≡ string_bytes text.old ++ depth_lines (road_ends K.Kind.levels K.Kind.TOP (road_standing sheet.now)) threshold.of last.of) }
 {
-    for shallower in 0..last {
-        push_depth(text, sheet, threshold, shallower + 1)?;
+    for number in 1..=u8::from(last) {
+        let Ok(depth) = Depth::try_from(number) else {
+            unreachable!()
+        };
+        push_depth(text, sheet, threshold, depth)?;
     }
     Ok(())
 }
 
-fn push_word(text: &mut String, word: &str) -> fmt::Result
-    ensures after { OnOk result (string_bytes text.new ≡ string_bytes text.old ++ word.now) }
-{
-    write!(text, "{word}")?;
-    Ok(())
-}
-
-fn push_coefficient(text: &mut String, coefficient: i64) -> fmt::Result
-    ensures after { OnOk result (string_bytes text.new ≡ string_bytes text.old ++ (codes " " ++ signed_decimal coefficient)) }
-{
-    write!(text, " {coefficient}")?;
-    Ok(())
-}
-
-// The coefficients of the powers below `count`.
-fn push_coefficients(text: &mut String, polynomial: &Coefficients, count: usize) -> fmt::Result
-    ensures after { OnOk result (string_bytes text.new ≡ string_bytes text.old ++ coefficients (λ k. signed_of (polynomial_of polynomial.now k)) count) }
-{
-    for power in 0..count {
-        push_coefficient(text, polynomial.signed(power))?;
-    }
-    Ok(())
-}
-
-pub(crate) fn push_polynomial(
+// The coefficients of the total to a depth, from the power 0 up to the greatest that a sheet can have.
+pub(crate) fn push_polynomial<K: Kind>(
     text: &mut String,
-    polynomial: &Coefficients,
-    count: usize,
-) -> fmt::Result
-    ensures after { OnOk result (string_bytes text.new ≡ string_bytes text.old ++ poly_line (λ k. signed_of (polynomial_of polynomial.now k)) count) }
+    sheet: &RoadSheet<'_, K>,
+    depth: Depth,
+) -> Result<(), AllocError>
+    ensures after { OnOk result (string_bytes text.new ≡ string_bytes text.old ++ polynomial_line K.Kind.levels K.Kind.TOP (road_standing sheet.now) depth.of) }
 {
-    push_word(text, "poly")?;
-    push_coefficients(text, polynomial, count)?;
-    push_word(text, "\n")?;
-    Ok(())
-}
-
-pub(crate) fn push_states(text: &mut String, states: u64) -> fmt::Result
-    ensures after { OnOk result (string_bytes text.new ≡ string_bytes text.old ++ states_line states) }
-{
-    write!(text, "states {states}\n")?;
-    Ok(())
+    let polynomial = sheet.total_at::<Polynomial>(depth);
+    let powers = sheet.components() * usize::from(K::TOP) + 1;
+    text.push_str("poly")?;
+    for power in 0..powers {
+        let coefficient = polynomial.signed(power);
+        write!(text, " {coefficient}")?;
+    }
+    text.push('\n')
 }

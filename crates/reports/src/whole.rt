@@ -1,19 +1,19 @@
 // The whole report on a sheet file, as text.
-ghost use Rattle.std.specs.Prelude.{◌≡◌, ◌≤◌, ◌++◌, IfOk, string_bytes, Decides, OnOk, slice_index};
+ghost use Rattle.std.specs.Prelude.{◌≡◌, IfOk, string_bytes, Decides, slice_index};
 ghost use Rattle.sheets.specs.Refusals.{number as number_of};
 ghost use Rattle.sheets.specs.Sheets.{road_standing};
 ghost use Rattle.sheet_file.specs.Forms.{form_of};
-ghost use Rattle.reports.specs.Lines.{polynomial_line, count_line, report_text};
+ghost use Rattle.sheet_file.specs.Kinds.{word};
+ghost use Rattle.reports.specs.Lines.{last_depth, report_text};
 ghost use Rattle.reports.specs.Reported.{fault_line, ReportedAs, Reported};
 
-use crate::lines::{push_depths, push_polynomial, push_sheet, push_states};
-use algebras::{Algebra, Count, Polynomial};
+use crate::lines::{push_depths, push_polynomial};
+use algebras::Count;
+use brackets::{Depth, Threshold};
 use needs::Kind;
-use sheet_file::{Fault, Filed, read};
+use sheet_file::{Fault, FileKind, Filed, read};
 use sheets::{BaySheet, Refusal, RoadSheet};
-use std::alloc::Global;
-use std::fmt;
-use std::fmt::Write;
+use std::alloc::{AllocError, Global};
 
 // The longest file that a report takes, in bytes.
 pub const LONGEST: usize = 4096;
@@ -21,81 +21,57 @@ pub const LONGEST: usize = 4096;
 // How many needs a report has places for.
 const PLACES: usize = 12;
 
-fn push_fault(text: &mut String, fault: &Fault) -> fmt::Result
-    ensures after { OnOk result (string_bytes text.new ≡ string_bytes text.old ++ fault_line (number_of fault.now.refusal) fault.now.«record» fault.now.byte) }
+// The line of a fault.
+fn fault_report(heap: Global, fault: Fault) -> Result<String, AllocError>
+    ensures answer { IfOk result (λ text. string_bytes text ≡ fault_line (number_of fault.refusal) fault.«record» fault.byte) }
 {
-    let number = fault.number();
-    let layer = fault.layer();
-    let record = fault.record;
-    let byte = fault.byte;
-    write!(text, "fault {number} {layer} {record} {byte}\n")?;
-    Ok(())
+    format!(in heap; "{fault}\n")
 }
 
-fn push_polynomial_total<K: Kind>(
-    text: &mut String,
-    sheet: &RoadSheet<'_, K>,
-    depth: u8,
-) -> fmt::Result
-    requires least { 1 ≤ depth }
-    requires most { depth ≤ 12 }
-    ensures after { OnOk result (string_bytes text.new ≡ string_bytes text.old ++ polynomial_line K.Kind.levels K.Kind.top (road_standing sheet.now) depth) }
+// Full depth, where the report ends.
+fn full_depth<K: Kind>(sheet: &RoadSheet<'_, K>) -> Depth
+    ensures answer { result.of ≡ last_depth K.Kind.levels K.Kind.TOP (road_standing sheet.now) }
 {
-    let mut polynomial = Polynomial::zero();
-    let Ok(()) = sheet.total::<Polynomial>(depth, &mut polynomial) else {
-        unreachable()
+    let Ok(depth) = Depth::try_from(sheet.held().max(1) as u8) else {
+        unreachable!()
     };
-    let powers = sheet.components() * usize::from(K::top_level()) + 1;
-    push_polynomial(text, &polynomial, powers)?;
-    Ok(())
+    depth
 }
 
-fn push_count_total<K: Kind>(text: &mut String, sheet: &RoadSheet<'_, K>, depth: u8) -> fmt::Result
-    requires least { 1 ≤ depth }
-    requires most { depth ≤ 12 }
-    ensures after { OnOk result (string_bytes text.new ≡ string_bytes text.old ++ count_line K.Kind.levels K.Kind.top (road_standing sheet.now) depth) }
-{
-    let mut states = Count::zero();
-    let Ok(()) = sheet.total::<Count>(depth, &mut states) else {
-        unreachable()
-    };
-    push_states(text, states.bits())?;
-    Ok(())
-}
-
-fn push_report<K: Kind>(
-    text: &mut String,
-    kind: &str,
-    threshold: u16,
+// The lines of a sheet.
+fn sheet_report<K: Kind>(
+    heap: Global,
+    kind: FileKind,
+    threshold: Threshold,
     sheet: &RoadSheet<'_, K>,
-) -> fmt::Result
-    requires threshold { threshold ≤ 32768 }
-    ensures after { OnOk result (string_bytes text.new ≡ string_bytes text.old ++ report_text K.Kind.levels K.Kind.top (road_standing sheet.now) kind.now threshold) }
+) -> Result<String, AllocError>
+    ensures answer { IfOk result (λ text. string_bytes text ≡ report_text K.Kind.levels K.Kind.TOP (road_standing sheet.now) (word kind) threshold.of) }
 {
-    let last = sheet.held().max(1) as u8;
-    push_sheet(text, kind, sheet.components(), threshold)?;
-    push_depths(text, sheet, threshold, last)?;
-    push_polynomial_total(text, sheet, last)?;
-    push_count_total(text, sheet, last)?;
-    Ok(())
+    let components = sheet.components();
+    let asked = u16::from(threshold);
+    let mut text = format!(in heap; "sheet {kind} {components} {asked}\n")?;
+    let last = full_depth(sheet);
+    push_depths(&mut text, sheet, threshold, last)?;
+    push_polynomial(&mut text, sheet, last)?;
+    let states = sheet.total_at::<Count>(last).bits();
+    writeln!(text, "states {states}")?;
+    Ok(text)
 }
 
 // The report on a file that is read as a sheet of one kind.
 fn report_as<K: Filed>(
     heap: Global,
     input: &[u8],
-    kind: &str,
+    kind: FileKind,
     places: &mut [K],
-) -> Result<String, fmt::Error>
-    ensures answer { IfOk result (λ text. ReportedAs (form_of K.Kind K.Filed.own) kind.now places.old input.now (string_bytes text)) }
+) -> Result<String, AllocError>
+    ensures answer { IfOk result (λ text. ReportedAs (form_of K.Kind K.Filed.own) (word kind) places.old input.now (string_bytes text)) }
 {
-    let mut text = String::new(heap);
     let mut sheet = BaySheet::open(places);
     match read(input, &mut sheet) {
-        Ok(threshold) => push_report(&mut text, kind, threshold, &sheet.put_out())?,
-        Err(fault) => push_fault(&mut text, &fault)?,
+        Ok(threshold) => sheet_report(heap, kind, threshold, &sheet.put_out()),
+        Err(fault) => fault_report(heap, fault),
     }
-    Ok(text)
 }
 
 // Whether a file is read as graded: its byte 2, where the head has the kind, tells.
@@ -103,30 +79,26 @@ fn is_graded(input: &[u8]) -> bool
     ensures answer { Decides result (slice_index input.now 2 ≡ 2) }
 {
     match input.get(2) {
-        Some(kind) => *kind == 2,
+        Some(byte) => matches!(FileKind::try_from(*byte), Ok(FileKind::Graded)),
         None => false,
     }
 }
 
 // The report on a sheet file; a file that is too long is refused unread.
-pub fn report(heap: Global, input: &[u8]) -> Result<String, fmt::Error>
+pub fn report(heap: Global, input: &[u8]) -> Result<String, AllocError>
     ensures answer { IfOk result (λ text. Reported input.now (string_bytes text)) }
 {
     if input.len() > LONGEST {
-        let mut text = String::new(heap);
-        push_fault(
-            &mut text,
-            &Fault {
-                refusal: Refusal::TrailingBytes,
-                record: 0,
-                byte: LONGEST,
-            },
-        )?;
-        return Ok(text);
+        let fault = Fault {
+            refusal: Refusal::TrailingBytes,
+            record: 0,
+            byte: LONGEST,
+        };
+        return fault_report(heap, fault);
     }
     if is_graded(input) {
-        report_as::<u32>(heap, input, "graded", &mut [0; PLACES])
+        report_as::<u32>(heap, input, FileKind::Graded, &mut [0; PLACES])
     } else {
-        report_as::<u16>(heap, input, "plain", &mut [0; PLACES])
+        report_as::<u16>(heap, input, FileKind::Plain, &mut [0; PLACES])
     }
 }

@@ -1,5 +1,7 @@
 pub mod Fronts
+pub mod Refused
+pub mod Words
+pub mod Arrays
 pub mod Heads
 pub mod Records
 pub mod Reached
-pub mod Thresholds

@@ -4,4 +4,4 @@ use Rattle.sheet_file.specs.declared.filed.Filed.{Ghosts}
 use Rattle.sheet_file.specs.Layout.{Form, form}
 
 abbrev pub form_of : {K : Type 0} → KindGhosts K → Ghosts K → Form K
-form_of k f = form f.kind k.top f.width f.coded k.levels
+form_of k f = form f.BYTE k.TOP f.width f.coded k.levels

@@ -2,11 +2,12 @@
 ghost use Rattle.std.specs.Prelude.{◌≡◌, Some};
 ghost use Rattle.sheets.specs.Refusals.{number as number_of};
 ghost use Rattle.sheet_file.specs.Layers.{layer_of, word};
+ghost use Rattle.sheet_file.specs.Texts.{fault_text};
 
 use sheets::Refusal;
 use std::fmt;
 
-#[derive(Clone, Copy)]
+#[derive(Clone, Copy, Debug, PartialEq, Eq)]
 pub struct Fault {
     pub refusal: Refusal,
     // counted from 0
@@ -16,7 +17,7 @@ pub struct Fault {
 }
 
 // Who met the fault: the reader itself, or the sheet that it reads into.
-#[derive(Clone, Copy)]
+#[derive(Clone, Copy, Debug, PartialEq, Eq)]
 pub enum Layer {
     Sheet,
     Reader,
@@ -32,10 +33,9 @@ impl Fault {
     pub fn layer(&self) -> Layer
         ensures answer { result ≡ layer_of (number_of self.now.refusal) }
     {
-        if self.number() < 12 {
-            Layer::Sheet
-        } else {
-            Layer::Reader
+        match self.refusal {
+            Refusal::WrongMark | Refusal::Truncated | Refusal::TrailingBytes => Layer::Reader,
+            _ => Layer::Sheet,
         }
     }
 }
@@ -48,5 +48,20 @@ impl fmt::Display for Layer {
             Layer::Sheet => f.pad("sheet"),
             Layer::Reader => f.pad("reader"),
         }
+    }
+}
+
+impl fmt::Display for Fault {
+    ghost output = { λ e. Some (fault_text (number_of e.refusal) e.«record» e.byte) };
+
+    fn fmt<W: fmt::Write>(&self, f: &mut fmt::Formatter<W>) -> fmt::Result {
+        write!(
+            f,
+            "fault {} {} {} {}",
+            self.number(),
+            self.layer(),
+            self.record,
+            self.byte
+        )
     }
 }

@@ -3,8 +3,10 @@
 
 mod fault;
 mod filed;
+mod kind;
 mod reader;
 
 pub use fault::{Fault, Layer};
 pub use filed::{Filed, FiledWeights};
+pub use kind::{FileKind, UnknownKind};
 pub use reader::read;

@@ -17,10 +17,10 @@ use sheets::{BaySheet, Refusal};
 fn read_head<'b, K: Filed>(
     bytes: &'b [u8],
     sheet: &mut BaySheet<'_, K>,
-) -> Result<(u16, &'b [u8]), Refusal>
+) -> Result<(Threshold, &'b [u8]), Refusal>
     requires opened { bay_standing sheet.old ≡ opened }
     ensures storage { bay_storage sheet.new ≡ bay_storage sheet.old }
-    ensures answer { MatchResult result (λ x. (head : List ℕ) × (bytes.now ≡ head ++ x.1.now) × Front (form_of K.Kind K.Filed.own) (bay_storage sheet.old) head 1 x.0 (bay_standing sheet.new) (bay_storage sheet.new)) (λ e. WrongHead (form_of K.Kind K.Filed.own) bytes.now (number e)) }
+    ensures answer { MatchResult result (λ x. (head : List ℕ) × (bytes.now ≡ head ++ x.1.now) × Front (form_of K.Kind K.Filed.own) (bay_storage sheet.old) head 1 x.0.of (bay_standing sheet.new) (bay_storage sheet.new)) (λ e. WrongHead (form_of K.Kind K.Filed.own) bytes.now (number e)) }
 {
     let fields = match bytes {
         [b'T', b'S', fields @ ..] => fields,
@@ -30,14 +30,12 @@ fn read_head<'b, K: Filed>(
     let [kind, components, high, low, rest @ ..] = fields else {
         return Err(Refusal::Truncated);
     };
-    if *kind != K::kind_number() {
+    if *kind != K::BYTE {
         return Err(Refusal::WrongMark);
     }
     sheet.size(usize::from(*components))?;
-    let threshold = u16::from_be_bytes([*high, *low]);
-    if threshold > Threshold::MOST {
-        return Err(Refusal::BadThreshold);
-    }
+    let asked = u16::from_be_bytes([*high, *low]);
+    let threshold = Threshold::try_from(asked)?;
     Ok((threshold, rest))
 }
 
@@ -51,17 +49,12 @@ fn read_record<'b, K: Filed>(
 {
     match bytes {
         [b'W', b'T', fields @ ..] => {
-            let Some(filed) = K::split_weights(fields) else {
-                return Err(Refusal::Truncated);
-            };
-            let row = filed.row;
-            sheet.set(usize::from(filed.component), row)?;
+            let filed = K::split_weights(fields).ok_or(Refusal::Truncated)?;
+            sheet.set(usize::from(filed.component), filed.row)?;
             Ok(filed.rest)
         }
         [b'N', b'D', fields @ ..] => {
-            let Some((need, rest)) = K::split_need(fields) else {
-                return Err(Refusal::Truncated);
-            };
+            let (need, rest) = K::split_need(fields).ok_or(Refusal::Truncated)?;
             sheet.fit(need)?;
             Ok(rest)
         }
@@ -71,18 +64,15 @@ fn read_record<'b, K: Filed>(
 }
 
 // All records up to the end, carried out on a sheet as opened.
-fn read_records<K: Filed>(input: &[u8], sheet: &mut BaySheet<'_, K>) -> Result<u16, Fault>
+fn read_records<K: Filed>(input: &[u8], sheet: &mut BaySheet<'_, K>) -> Result<Threshold, Fault>
     requires opened { bay_standing sheet.old ≡ opened }
-    ensures answer { MatchResult result (λ t. Read (form_of K.Kind K.Filed.own) (bay_storage sheet.old) input.now t (bay_standing sheet.new) (bay_storage sheet.new)) (λ e. Faulty (form_of K.Kind K.Filed.own) (bay_storage sheet.old) input.now e (bay_storage sheet.new)) }
+    ensures answer { MatchResult result (λ t. Read (form_of K.Kind K.Filed.own) (bay_storage sheet.old) input.now t.of (bay_standing sheet.new) (bay_storage sheet.new)) (λ e. Faulty (form_of K.Kind K.Filed.own) (bay_storage sheet.old) input.now e (bay_storage sheet.new)) }
 {
-    let (threshold, mut rest) = match read_head(input, sheet) {
-        Ok(head) => head,
-        Err(refusal) => return Err(Fault {
-            refusal,
-            record: 0,
-            byte: 0,
-        }),
-    };
+    let (threshold, mut rest) = read_head(input, sheet).map_err(|refusal| Fault {
+        refusal,
+        record: 0,
+        byte: 0,
+    })?;
     let mut record = 1;
     loop {
         let byte = input.len() - rest.len();
@@ -96,21 +86,18 @@ fn read_records<K: Filed>(input: &[u8], sheet: &mut BaySheet<'_, K>) -> Result<u
                 byte: byte + 2,
             });
         }
-        match read_record(rest, sheet) {
-            Ok(behind) => rest = behind,
-            Err(refusal) => return Err(Fault {
-                refusal,
-                record,
-                byte,
-            }),
-        }
+        rest = read_record(rest, sheet).map_err(|refusal| Fault {
+            refusal,
+            record,
+            byte,
+        })?;
         record += 1;
     }
 }
 
 // Reads a sheet file into a sheet, which is first put back to its opening, and so it is again after a fault.
-pub fn read<K: Filed>(input: &[u8], sheet: &mut BaySheet<'_, K>) -> Result<u16, Fault>
-    ensures answer { MatchResult result (λ t. Read (form_of K.Kind K.Filed.own) (bay_storage sheet.old) input.now t (bay_standing sheet.new) (bay_storage sheet.new)) (λ e. Faulty (form_of K.Kind K.Filed.own) (bay_storage sheet.old) input.now e (bay_storage sheet.new)) }
+pub fn read<K: Filed>(input: &[u8], sheet: &mut BaySheet<'_, K>) -> Result<Threshold, Fault>
+    ensures answer { MatchResult result (λ t. Read (form_of K.Kind K.Filed.own) (bay_storage sheet.old) input.now t.of (bay_standing sheet.new) (bay_storage sheet.new)) (λ e. Faulty (form_of K.Kind K.Filed.own) (bay_storage sheet.old) input.now e (bay_storage sheet.new)) }
     ensures standing { OnErr result (bay_standing sheet.new ≡ opened) }
 {
     sheet.reopen();

@@ -1,16 +1,24 @@
--- A settled standing stays settled over an accepted fit, strike and set. Assumes nothing.
-use Rattle.std.proofs.Common.{◌≡◌, ℕ, zero, suc, ◌+◌, ◌<◌, ◌≤◌, cond, ltb, ◌⊎◌, List, [], ◌∷◌, ◌++◌, map, length, get_or, sym, ap, ◌∙◌, subst, inl, inr, ⊎_elim, arith, length-append}
+-- A standing without needs and chances is settled, and a settled one stays so over an accepted fit, strike and set; every sheet is settled. Assumes nothing.
+use Rattle.std.proofs.Common.{◌≡◌, ℕ, zero, suc, ◌+◌, ◌<◌, ◌≤◌, cond, ltb, ◌⊎◌, List, [], ◌∷◌, ◌++◌, map, length, replicate, get_or, refl, sym, ap, ◌∙◌, subst, inl, inr, ⊎_elim, arith, length-append}
 use Rattle.std.specs.List.{remove}
 use Rattle.std.proofs.lemmas.List.Edits.{length-remove, get_or-remove_below, get_or-remove_above}
 use lib.ListN.{length-map}
-use Rattle.std.proofs.lemmas.List.{map-append, get_or_append_left, get_or_push, get_or-set_other}
+use Rattle.std.proofs.lemmas.List.{map-append, get_or_append_left, get_or_push, get_or-set_other, get_or-replicate}
 use Rattle.std.proofs.lemmas.Bool.{cases_lt, cases_eq, cond_both, ltb-true, ltb-false}
 use Rattle.std.proofs.lemmas.Bool.Decides.{nat_tests}
+use mathlib.Core.HLevel.{⊥_prop}
+use mathlib.Core.Logic.{∥∥₁_elim}
+use Rattle.std.proofs.Math.Nat.{ℕ_set}
+use Rattle.std.specs.Coded.{Coded-set, coded_list, coded_ℕ}
+use Rattle.needs.specs.declared.Kind.{Ghosts}
+use Rattle.sheets.specs.declared.bay.BaySheet.{BaySheet}
+use Rattle.sheets.specs.declared.road.RoadSheet.{RoadSheet}
+use Rattle.sheets.specs.Sheets.{bay_standing, road_standing}
 use Rattle.sheets.proofs.Struck.{map_one_less}
 use Rattle.needs.specs.Levels.{Need, Covers, width}
 use Rattle.weights.specs.Chances.{trimmed}
 use Rattle.weights.proofs.Rows.{set_row as row_set, trimmed_trimmed}
-use Rattle.sheets.specs.Standings.{Standing, fitted, struck, weighted}
+use Rattle.sheets.specs.Standings.{Standing, standing_of, blank, fitted, struck, weighted}
 use Rattle.sheets.specs.Causes.{AsksFrom}
 use Rattle.sheets.specs.Causes.{Accepted, causes}
 use Rattle.sheets.specs.Causes.Call.{set as set_row, fit, strike}
@@ -30,6 +38,12 @@ asks d some = ⊎_elim (λ found. found) (λ none. absurd (some (λ at. none at.
 
 covers_like : {d d' e e' : Need} → d ≡ d' → e ≡ e' → Covers d e → Covers d' e'
 covers_like {d} {e'} same same' covers = subst (λ x. Covers x e') same (subst (Covers d) same' covers)
+
+trimmed_blank : (top : ℕ) → trimmed top (replicate 3 0) ≡ replicate 3 0
+trimmed_blank zero = refl
+trimmed_blank (suc zero) = refl
+trimmed_blank (suc (suc zero)) = refl
+trimmed_blank (suc (suc (suc top))) = refl
 
 module _ {K : Type 0} (levels : K → Need) (top : ℕ) where
   abbrev need_of : List K → ℕ → Need
@@ -109,3 +123,42 @@ module _ {K : Type 0} (levels : K → Need) (top : ℕ) where
         spare = λ j from h. get_or-set_other s.card i j (trimmed top row) [] (λ same. has (omega arith)) ∙ settled.spare j from h;
         neat = λ j h. row_set (λ k r. trimmed top r ≡ r) s.card i (trimmed top row) j (trimmed_trimmed top row) (settled.neat j h);
       }
+
+  -- without needs and chances
+  pub bare_settled : (held : ℕ) (places : List K) (n : ℕ) (card : List (List ℕ)) → held ≡ 0 → card ≡ blank → ∥ Settled levels top (standing_of held places n card) ∥₁
+  bare_settled held places n card none unset = subst (λ k. ∥ Settled levels top (standing_of k places n card) ∥₁) (sym none) (subst (λ rows. ∥ Settled levels top (standing_of 0 places n rows) ∥₁) (sym unset) ∣ bare ∣₁)
+    where
+      no_row : (i : ℕ) → i < 8 → get_or blank i [] ≡ replicate 3 0
+      no_row i h = get_or-replicate 8 i (replicate 3 0) [] h
+
+      bare : Settled levels top (standing_of 0 places n blank)
+      bare =
+          record {
+            clutter = λ p q h. absurd (omega (arith, h));
+            known = λ p h. absurd (omega (arith, h));
+            asking = λ p h. absurd (omega (arith, h));
+            spare = λ i from h. no_row i h;
+            neat = λ i h. subst (λ row. trimmed top row ≡ row) (sym (no_row i h)) (trimmed_blank top);
+          }
+
+-- A sheet's type keeps the fact between bars, which allow it one proof only. Nothing is lost so: the bars come off.
+pub settled_whole : {K : Type 0} {levels : K → Need} {top : ℕ} {s : Standing K} → ∥ Settled levels top s ∥₁ → Settled levels top s
+settled_whole kept =
+    record {
+      clutter = λ p q h k covers. ∥∥₁_elim kept (ℕ_set _ _) (λ t. t.clutter p q h k covers);
+      known = λ p h from. ∥∥₁_elim kept ⊥_prop (λ t. t.known p h from);
+      asking = λ p h. asks _ (λ none. ∥∥₁_elim kept ⊥_prop (λ t. none (t.asking p h)));
+      spare = λ i from h. ∥∥₁_elim kept (rows_set _ _) (λ t. t.spare i from h);
+      neat = λ i h. ∥∥₁_elim kept (rows_set _ _) (λ t. t.neat i h);
+    }
+  where
+    rows_set : IsSet (List ℕ)
+    rows_set = Coded-set (coded_list coded_ℕ)
+
+-- so every sheet is settled, in the bay and on the road
+module _ {K : Type 0} {kind : Ghosts K} where
+  pub bay_settled : (s : BaySheet K kind) → Settled kind.levels kind.TOP (bay_standing s)
+  bay_settled s = settled_whole s.sheet.settled
+
+  pub road_settled : (s : RoadSheet K kind) → Settled kind.levels kind.TOP (road_standing s)
+  road_settled s = settled_whole s.sheet.settled

@@ -1,5 +1,5 @@
 -- The places after a strike. Assumes nothing.
-use Rattle.std.proofs.Common.{◌≡◌, ℕ, suc, ◌-◌, ◌<◌, ◌≤◌, List, ◌++◌, map, length, take, drop, sym, ap, ◌∙◌, append_assoc, arith, length-append, length-drop, take-append-drop, take_at}
+use Rattle.std.proofs.Common.{◌≡◌, ℕ, suc, ◌-◌, ◌<◌, ◌≤◌, List, ◌++◌, map, length, take, drop, sym, ap, ◌∙◌, append_assoc, arith, take-append-drop, take_at}
 use lib.Seq.{drop-append-le}
 use Rattle.std.proofs.lemmas.List.Edits.{length-remove}
 use Rattle.std.proofs.lemmas.List.{length-take-le, map-append, take-map, drop-map}
@@ -25,12 +25,6 @@ module _ {K : Type 0} (places : List K) (held p : ℕ) (within : held ≤ length
       let long : length (take held places) ≡ held = length-take-le held places within in
       let less = length-remove (take held places) p (omega arith) in
       take_at (remove (take held places) p) (drop (held - 1) places) (held - 1) (omega arith)
-
-  pub struck_length : length (struck_storage held p places) ≡ length places
-  struck_length =
-      let long : length (take held places) ≡ held = length-take-le held places within in
-      let less = length-remove (take held places) p (omega arith) in
-      omega (arith, length-append (remove (take held places) p) (drop (held - 1) places), length-drop (held - 1) places)
 
 pub map_one_less : {X Y : Type 0} (f : X → Y) (xs : List X) (p : ℕ) → map f (remove xs p) ≡ remove (map f xs) p
 map_one_less f xs p = map-append f (take p xs) (drop (suc p) xs) ∙ ap (λ ys. ys ++ map f (drop (suc p) xs)) (sym (take-map f p xs)) ∙ ap (λ ys. take p (map f xs) ++ ys) (sym (drop-map f (suc p) xs))

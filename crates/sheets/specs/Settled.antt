@@ -1,4 +1,4 @@
--- What is always so of a sheet's standing. The kind's meaning is part of it, so the calls promise to keep it.
+-- What is always so of a sheet's standing: the type of a sheet, in the bay and on the road, keeps it as a fact.
 --
 -- clutter    no held need covers another
 -- known      no held need asks anything of a component that the sheet has not

@@ -1,8 +1,9 @@
 -- What a sheet holds, and what the accepted calls do to it.
 --
--- standing   the held needs by place, the number of components, and the card of chances
--- capacity   how many needs a sheet may hold: as many as places are supplied, at most 12
--- blank      a card without any chance above level 0
+-- standing      the held needs by place, the number of components, and the card of chances
+-- standing of   so many needs in the first places of storage, with a number of components and a card
+-- capacity      how many needs a sheet may hold: as many as places are supplied, at most 12
+-- blank         a card without any chance above level 0
 use Rattle.std.specs.Prelude.{ℕ, ◌-◌, min, List, [], ◌++◌, length, take, drop, replicate}
 use Rattle.inclusion_exclusion.specs.Changes.{one_more, one_less, rewritten}
 
@@ -10,6 +11,9 @@ pub record Standing (K : Type 0) : Type 0 where
   pub needs : List K
   pub components : ℕ
   pub card : List (List ℕ)
+
+abbrev pub standing_of : {K : Type 0} → (held : ℕ) → (storage : List K) → (components : ℕ) → (card : List (List ℕ)) → Standing K
+standing_of held storage n card = record { needs = take held storage; components = n; card = card }
 
 abbrev pub capacity : {K : Type 0} → (storage : List K) → ℕ
 capacity storage = min 12 (length storage)

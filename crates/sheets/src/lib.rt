@@ -5,6 +5,7 @@ mod bay;
 mod clutter;
 mod refusal;
 mod road;
+mod sheet;
 mod supposed;
 
 pub use bay::BaySheet;

@@ -1,9 +1,7 @@
 -- What one pass over the choices adds at each place of a list of values, place k for the choices of k + 1 needs.
 -- Assumes nothing.
-use Rattle.std.proofs.Common.{◌≡◌, ℕ, zero, suc, ◌+◌, ◌-◌, ◌%◌, ◌<◌, ◌≤◌, cond, eqb, ◌≢◌, List, [], ◌∷◌, ◌++◌, length, get_or, take, drop, set, sym, ap, ◌∙◌, subst, add-one, arith, length-append, take_all, get_or-set_other, get_or-set_same, below_more}
-use borrow.Rule.Slice.PartMut.{put_mid}
-use Rattle.std.specs.List.{between}
-use Rattle.std.proofs.lemmas.List.{get_or_append_left, get_or_default}
+use Rattle.std.proofs.Common.{◌≡◌, ℕ, zero, suc, ◌+◌, ◌%◌, ◌<◌, ◌≤◌, cond, eqb, ◌≢◌, List, ◌∷◌, length, get_or, set, sym, ap, ◌∙◌, add-one, arith, get_or-set_other, get_or-set_same, below_more}
+use Rattle.std.proofs.lemmas.List.{get_or_default}
 use Rattle.needs.specs.Levels.{Need, join}
 use Rattle.algebras.specs.Model.{Model}
 use Rattle.totals.specs.Choices.{Setting, weight, alternating}
@@ -14,34 +12,24 @@ module _ {V : Type 0} (m : Model) (s : Setting) (means : V → m.Carrier) where
   abbrev pub Adds : Need → List Need → List V → List V → Type 0
   Adds j ds before after = (k : ℕ) (d : V) → k < length before → means (get_or after k d) ≡ m.plus (means (get_or before k d)) (sum_from m s j (suc k) ds)
 
-  -- without needs there is no choice
-  pub adds_none : (j : Need) (vs : List V) → Adds j [] vs vs
-  adds_none j vs k d h = sym (m.plus_zero (means (get_or vs k d)))
-
   -- x + w, and then + b, is x + (w + b)
   joint : (x w b y z : m.Carrier) → y ≡ m.plus x w → z ≡ m.plus y b → z ≡ m.plus x (m.plus w b)
   joint x w b y z first then = then ∙ ap (λ u. m.plus u b) first ∙ m.plus_assoc x w b
 
   -- v for the first need alone, ys for it with others, and then what the other needs add by themselves
-  pub adds_first : (j x : Need) (xs : List Need) (vs : List V) (v : V) (e : ℕ) (ys after : List V)
-      → 0 < length vs → e ≡ length vs → length ys ≡ e - 1
-      → ((d : V) → means v ≡ m.plus (means (get_or vs 0 d)) (weight m s (join j x)))
-      → Adds (join j x) xs (between 1 e (set vs 0 v)) ys
-      → Adds j xs (put_mid 1 (e - 1) (set vs 0 v) ys) after
-      → Adds j (x ∷ xs) vs after
-  adds_first j x xs [] v e ys after some len long own with-x without k d h = absurd (omega arith)
-  adds_first j x xs (a ∷ us) v e ys after some len long own with-x without zero d h =
+  pub adds_first : (j x : Need) (xs : List Need) (a : V) (us : List V) (v : V) (ys after : List V)
+      → length ys ≡ length us
+      → means v ≡ m.plus (means a) (weight m s (join j x))
+      → Adds (join j x) xs us ys
+      → Adds j xs (v ∷ ys) after
+      → Adds j (x ∷ xs) (a ∷ us) after
+  adds_first j x xs a us v ys after long own with-x without zero d h =
       joint (means a) (sum_from m s (join j x) 0 xs) (sum_from m s j 1 xs) (means v) (means (get_or after 0 d))
-      (own d ∙ ap (m.plus (means a)) (sym (sum_zero m s (join j x) xs))) (without 0 d (omega arith))
+      (own ∙ ap (m.plus (means a)) (sym (sum_zero m s (join j x) xs))) (without 0 d (omega arith))
       ∙ ap (m.plus (means a)) (sym (sum_more m s j x xs 0))
-  adds_first j x xs (a ∷ us) v e ys after some len long own with-x without (suc k) d h =
-      let below : k < length ys = omega arith in
-      let part : take (e - 1) us ≡ us = take_all (e - 1) us (omega arith) in
-      let added : means (get_or ys k d) ≡ m.plus (means (get_or us k d)) (sum_from m s (join j x) (suc k) xs)
-      = subst (λ (l : List V). means (get_or ys k d) ≡ m.plus (means (get_or l k d)) (sum_from m s (join j x) (suc k) xs)) part (with-x k d (rw part (omega arith))) in
-      let kept : get_or (ys ++ drop (e - 1) us) k d ≡ get_or ys k d = get_or_append_left ys (drop (e - 1) us) d k below in
+  adds_first j x xs a us v ys after long own with-x without (suc k) d h =
       joint (means (get_or us k d)) (sum_from m s (join j x) (suc k) xs) (sum_from m s j (suc (suc k)) xs) (means (get_or ys k d)) (means (get_or after (suc k) d))
-      added (without (suc k) d (simp length-append (omega arith)) ∙ ap (λ (u : V). m.plus (means u) (sum_from m s j (suc (suc k)) xs)) kept)
+      (with-x k d (omega arith)) (without (suc k) d (omega arith))
       ∙ ap (m.plus (means (get_or us k d))) (sym (sum_more m s j x xs (suc k)))
 
 module _ {V : Type 0} (m : Model) (means : V → m.Carrier) where

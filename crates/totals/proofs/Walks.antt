@@ -1,12 +1,15 @@
--- One step of the walk over components. Assumes nothing.
-use Rattle.std.proofs.Common.{◌≡◌, ℕ, suc, ◌+◌, ◌-◌, ◌<◌, sym, ap, ◌∙◌, add-one, arith}
+-- The walk over components as a fold over their numbers. Assumes nothing.
+use Rattle.std.proofs.Common.{◌≡◌, ℕ, zero, suc, refl, ap, ◌∙◌, add-one}
+use Rattle.std.specs.List.{fold, range_with_len}
 use Rattle.needs.specs.Levels.{Need}
 use Rattle.weights.specs.Chances.{chance}
 use Rattle.algebras.specs.Model.{Model}
 use Rattle.totals.specs.Choices.{Setting, walked}
 
-pub walk_next : (m : Model) (s : Setting) (n i : ℕ) (d : Need) (x : m.Carrier) → i < n
-    → walked m s (n - i) i d x ≡ walked m s (n - (i + 1)) (i + 1) d (m.step (chance s.card) s.top i (d i) x)
-walk_next m s n i d x h =
-    let y = m.step (chance s.card) s.top i (d i) x in
-    ap (λ k. walked m s k i d x) {x = n - i} {y = suc (n - (i + 1))} (omega arith) ∙ ap (λ j. walked m s (n - (i + 1)) j d y) (sym (add-one i))
+module _ (m : Model) (s : Setting) (d : Need) where
+  abbrev pub taken : m.Carrier → ℕ → m.Carrier
+  taken x i = m.step (chance s.card) s.top i (d i) x
+
+  pub walk_is_fold : (left i : ℕ) (x : m.Carrier) → fold taken x (range_with_len i left) ≡ walked m s left i d x
+  walk_is_fold zero i x = refl
+  walk_is_fold (suc left) i x = ap (λ k. fold taken (taken x i) (range_with_len k left)) (add-one i) ∙ walk_is_fold left (suc i) (taken x i)

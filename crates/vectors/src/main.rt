@@ -21,10 +21,9 @@ fn digit(c: u8) -> u8
 
 fn decode(heap: Global, text: &str) -> Result<Vec<u8>, AllocError> {
     let mut bytes = Vec::new(heap);
-    for pair in text.as_bytes().chunks_exact(2) {
-        if let [high, low] = pair {
-            bytes.push(digit(*high) * 16 + digit(*low))?;
-        }
+    for pair in text.as_bytes().as_chunks::<2>().0 {
+        let [high, low] = *pair;
+        bytes.push(digit(high) * 16 + digit(low))?;
     }
     Ok(bytes)
 }
@@ -32,9 +31,10 @@ fn decode(heap: Global, text: &str) -> Result<Vec<u8>, AllocError> {
 fn run(rt: &HostRuntime) -> anyhow::Result<()> {
     for line in BufReader::new(rt.alloc(), rt.stdin())?.lines(rt.alloc()) {
         let line = line?;
-        let Some((name, hex)) = line.as_str().split_once(' ') else {
-            return Err(anyhow!("a line wants a name and a file"));
-        };
+        let (name, hex) = line
+            .as_str()
+            .split_once(' ')
+            .ok_or_else(|| anyhow!("a line wants a name and a file"))?;
         let input = decode(rt.alloc(), hex)?;
         let text = report(rt.alloc(), input.as_slice())?;
         print!(rt; "# {name}\n{text}")?;

@@ -1,4 +1,2 @@
 pub mod Rows
 pub mod Falling
-pub mod Walk
-pub mod Trim

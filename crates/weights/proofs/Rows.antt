@@ -1,18 +1,6 @@
--- Weights above level 0, what trimming leaves of a row, and a row written into a card. Assumes nothing.
-use Rattle.std.proofs.Common.{◌≡◌, ℕ, zero, suc, ◌-◌, ◌<◌, ◌≤◌, List, [], ◌∷◌, length, get_or, set, refl, ap, ◌∙◌, arith}
-use Rattle.std.proofs.lemmas.List.{get_or_past}
-use Rattle.weights.specs.Chances.{weight, chance, trimmed}
-
-pub weight_above : (row : List ℕ) (l : ℕ) → (l ≡ 0 → ⊥) → weight row l ≡ get_or row (l - 1) 0
-weight_above row zero h = absurd (h refl)
-weight_above row (suc l) h = ap (λ k. get_or row k 0) {x = l} {y = suc l - 1} (omega arith)
-
--- no weight is noted past a row's end, nor for a component past the card's
-pub weight_past : (row : List ℕ) (l : ℕ) → (l ≡ 0 → ⊥) → length row ≤ l - 1 → weight row l ≡ 0
-weight_past row l h past = weight_above row l h ∙ get_or_past row (l - 1) 0 past
-
-pub chance_past : (card : List (List ℕ)) (i l : ℕ) → (l ≡ 0 → ⊥) → length card ≤ i → chance card i l ≡ 0
-chance_past card i l h past = ap (λ row. weight row l) (get_or_past card i [] past) ∙ weight_past [] l h (omega arith)
+-- What trimming leaves of a row, and a row written into a card. Assumes nothing.
+use Rattle.std.proofs.Common.{◌≡◌, ℕ, zero, suc, ◌<◌, ◌≤◌, List, [], ◌∷◌, get_or, set, refl, ap, arith}
+use Rattle.weights.specs.Chances.{weight, trimmed}
 
 -- what a trimmed row keeps, and what it notes as 0
 pub trimmed_below : (top : ℕ) (row : List ℕ) (k : ℕ) → k < top → get_or (trimmed top row) k 0 ≡ get_or row k 0
@@ -31,11 +19,6 @@ trimmed_from (suc top) (w ∷ row) (suc k) h = trimmed_from top row k (omega ari
 pub weight_trimmed : (top : ℕ) (row : List ℕ) (l : ℕ) → l ≤ top → weight (trimmed top row) l ≡ weight row l
 weight_trimmed top row zero h = refl
 weight_trimmed top row (suc l) h = trimmed_below top row l (omega arith)
-
-pub length_trimmed : (top : ℕ) (row : List ℕ) → length (trimmed top row) ≡ length row
-length_trimmed top [] = refl
-length_trimmed zero (w ∷ row) = ap suc (length_trimmed zero row)
-length_trimmed (suc top) (w ∷ row) = ap suc (length_trimmed top row)
 
 -- what holds of a new row in its place, and of what another place had, holds of what that place has once the row is written
 pub set_row : (P : ℕ → List ℕ → Type 0) (card : List (List ℕ)) (i : ℕ) (row : List ℕ) (j : ℕ) → P i row → P j (get_or card j []) → P j (get_or (set card i row) j [])

@@ -3,7 +3,7 @@ ghost use Rattle.std.specs.Prelude.{◌≡◌, replicate, slice_index_or, slice_
 
 use crate::{COMPONENTS, LEVELS, Row, Rows};
 
-#[derive(Clone, Copy)]
+#[derive(Clone, Copy, Debug, PartialEq, Eq)]
 pub struct Card {
     pub rows: Rows,
 }
@@ -28,10 +28,7 @@ impl Card {
     pub fn write(&mut self, component: usize, row: Row)
         ensures after { self.new.rows ≡ slice_set self.old.rows component row }
     {
-        if component < COMPONENTS {
-            let lent = &mut self.rows[component];
-            *lent = row;
-        }
+        write_row(&mut self.rows, component, row);
     }
 }
 
@@ -39,17 +36,14 @@ impl Card {
 pub fn row_at(rows: &Rows, component: usize) -> Row
     ensures answer { result ≡ slice_index_or rows.now component (replicate 3 0) }
 {
-    match rows.get(component) {
-        Some(row) => *row,
-        None => [0; LEVELS],
-    }
+    rows.get(component).copied().unwrap_or([0; LEVELS])
 }
 
 // Writes the row of a component whole, if there is one; every other row stays.
 pub fn write_row(rows: &mut Rows, component: usize, row: Row)
     ensures after { rows.new ≡ slice_set rows.old component row }
 {
-    if component < COMPONENTS {
+    if component < rows.len() {
         let held = &mut rows[component];
         *held = row;
     }

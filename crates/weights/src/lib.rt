@@ -32,11 +32,8 @@ pub fn chance(rows: &Rows, component: usize, level: u8) -> u16
     if level == 0 {
         return CERTAIN;
     }
-    let Some(row) = rows.get(component) else {
-        return 0;
-    };
-    match row.get(usize::from(level) - 1) {
-        Some(weight) => *weight,
-        None => 0,
-    }
+    rows.get(component)
+        .and_then(|row| row.get(usize::from(level) - 1))
+        .copied()
+        .unwrap_or(0)
 }

@@ -8,24 +8,16 @@ use crate::{CERTAIN, Row};
 pub fn falls(row: &Row, top: u8) -> bool
     ensures answer { Decides result (Falling top row.now) }
 {
-    let mut above = CERTAIN;
-    for weight in row.iter().take(usize::from(top)) {
-        if *weight > above {
-            return false;
-        }
-        above = *weight;
-    }
-    true
+    let held = &row[..row.len().min(usize::from(top))];
+    held.first().is_none_or(|first| *first <= CERTAIN)
+        && held.is_sorted_by(|above, weight| above >= weight)
 }
 
 // The row with its weights above the top level noted as 0.
 pub fn trimmed(mut row: Row, top: u8) -> Row
     ensures answer { result ≡ trimmed_of top row }
 {
-    for (place, weight) in row.iter_mut().enumerate() {
-        if place >= usize::from(top) {
-            *weight = 0;
-        }
-    }
+    let kept = row.len().min(usize::from(top));
+    row[kept..].fill(0);
     row
 }

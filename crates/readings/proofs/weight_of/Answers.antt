@@ -1,48 +1,42 @@
--- A reading that passes the tests is a chance, and the loop ends at its weight: the greatest that the scaled reading reaches. Assumes nothing.
-use Rattle.std.proofs.Common.{◌≡◌, ℕ, ◌<◌, ◌≤◌, sym, ◌∙◌, subst, arith}
-use Rattle.std.proofs.lemmas.Bool.{both_ways, ltb-true, ltb-false}
-use Rattle.readings.specs.Readings.{AtMost, sixty_fourths}
-use Rattle.readings.proofs.Chances.{chance_from_tests, tests_from_chance, to_certainty, largest}
-use Rattle.readings.proofs.Scaling.{scaled_below}
+use Rattle.std.proofs.Common.{rules, ◌≡◌, ℕ, ◌≤◌, Some, MatchOption, pos, refl, sym, ◌∙◌, subst}
+use lib.Ieee.{binary64, of_int, of_bits, mul, le}
+use Rattle.std.proofs.iter.runs.Sources.{inclusive_listed_back}
+use Rattle.readings.proofs.Descent.{Largest, largest_from_find, largest_is}
+use Rattle.std.proofs.lemmas.Bool.{false≢true}
+use Rattle.std.specs.Option.{IfSome}
+use Rattle.readings.specs.Readings.{IsChance, AtMost, sixty_fourths}
+use Rattle.readings.proofs.Chances.{contains_decides, to_certainty, largest}
+use Rattle.readings.proofs.Scaling.{scaled_most}
 use Rattle.readings.proofs.weight_of.Goals as goal
-use Rattle.readings.proofs.weight_of.Goals.{then-is_nan-via-then-is_nan, then-is_nan-via-else-is_nan+then-reading, then-is_nan-via-else-is_nan+else-reading+then-reading-2}
 
-pub returns-then-is_nan : goal.returns-then-is_nan
-returns-then-is_nan c =
-    record {
-      answer = λ chance.
-          let tests = tests_from_chance c.args.reading chance in
-          elim c.then-is_nan.branch [
-            | then-is_nan-via-then-is_nan w ↦ both_ways _ tests.0 (sym c.is_nan.ensures.value ∙ w.if-is_nan.true)
-            | then-is_nan-via-else-is_nan+then-reading w ↦ both_ways _ tests.1 w.if-reading.true
-            | then-is_nan-via-else-is_nan+else-reading+then-reading-2 w ↦ both_ways _ tests.2 w.if-reading-2.true
-          ];
-      largest = tt;
-    }
+found : (c : goal.After-find) → Largest (λ w. le (of_int binary64 (pos w)) (mul binary64 c.args.reading (of_bits binary64 0x4050_0000_0000_0000))) 64 c.find.result
+found c =
+    let find = c.find.ensures.runs in
+    let back = c.rev.ensures.runs find.0 find.0.seen find.1 in
+    let down = inclusive_listed_back back.0 back.0.seen in
+    largest_from_find _ _ _ find.0 back.0 64 down.0 down.1 (search rules) (search rules) back.2 (down.4 (search rules)).0 (λ x b q called. search rules) (λ x b q called. search rules) c.find.result find.2
 
-pub loop-weight-init : goal.loop-weight-init
-loop-weight-init c =
-    let chance = chance_from_tests c.args.reading (sym c.if-is_nan.ensures.value) c.if-reading.false c.if-reading-2.false in
-    (chance, to_certainty c.args.reading chance, omega arith)
-
-below : (c : goal.In-loop-weight) → sixty_fourths c.args.reading < c.loop-weight.weight
-below c =
-    let inv = c.loop-weight.invariant in
-    ltb-true _ _ (sym (scaled_below c.args.reading c.from.result c.loop-weight.weight c.well_formed.0.1 inv.0 inv.2 c.from.ensures) ∙ c.loop-weight-test.true)
-
-pub overflow_sub-weight : goal.overflow_sub-weight
-overflow_sub-weight c = omega (arith, below c)
-
-pub loop-weight-smaller : goal.loop-weight-smaller
-loop-weight-smaller c = omega (arith, below c)
-
-pub loop-weight-preserved : goal.loop-weight-preserved
-loop-weight-preserved c = (c.loop-weight.invariant.0, omega (arith, below c), omega arith)
-
-pub returns : goal.returns
-returns c =
+is : (c : goal.After-find) → IsChance c.args.reading → c.find.result ≡ Some (sixty_fourths c.args.reading)
+is c chance =
     let p = c.args.reading in
-    let inv = c.loop-weight.invariant in
-    let reached = ltb-false _ _ (sym (scaled_below p c.from.result c.loop-weight.weight c.well_formed.0.1 inv.0 inv.2 c.from.ensures) ∙ c.loop-weight-test.false) in
-    let is : c.loop-weight.weight ≡ sixty_fourths p = omega arith in
-    record { answer = (inv.0, is); largest = subst (λ w. AtMost w p × ((v : ℕ) → AtMost v p → v ≤ w)) (sym is) (largest p inv.0) }
+    largest_is _ 64 (sixty_fourths p) (to_certainty p chance) (λ v h. scaled_most p v c.well_formed.0.1 chance h) c.find.result (found c)
+
+chance : (c : goal.After-find) → IsChance c.args.reading
+chance c =
+    let range = c.new.ensures in
+    (contains_decides c.new.result range.start range.end range.exhausted c.args.reading c.contains.result c.contains.ensures.value).0 c.if-not-contains.false
+
+pub returns-then-not-contains-clause-answer : goal.returns-then-not-contains-clause-answer
+returns-then-not-contains-clause-answer c = λ chance.
+    let range = c.new.ensures in
+    false≢true (sym c.if-not-contains.true ∙ (contains_decides c.new.result range.start range.end range.exhausted c.args.reading c.contains.result c.contains.ensures.value).1 chance)
+
+pub returns-clause-answer : goal.returns-clause-answer
+returns-clause-answer c =
+    let p = c.args.reading in
+    subst (λ r. MatchOption r (IsChance p → ⊥) (λ w. IsChance p × (w ≡ sixty_fourths p))) (sym (is c (chance c))) (chance c, refl)
+
+pub returns-clause-largest : goal.returns-clause-largest
+returns-clause-largest c =
+    let p = c.args.reading in
+    subst (λ r. IfSome r (λ w. AtMost w p × ((v : ℕ) → AtMost v p → v ≤ w))) (sym (is c (chance c))) (largest p (chance c))

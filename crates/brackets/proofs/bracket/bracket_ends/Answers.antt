@@ -19,16 +19,17 @@ ends_by s ds depth full known = ap (λ b. both (cond b (totals s ds depth) (best
 
 pub returns-then-depth-needs : goal.returns-then-depth-needs
 returns-then-depth-needs g c =
-    let s = setting c.args.components c.args.rows.now g.K.Kind.top in
+    let s = setting c.args.chances.components c.args.chances.rows.now g.K.Kind.TOP in
     let ds = map g.K.Kind.levels c.args.needs.now in
     let long = length-map c.args.needs.now g.K.Kind.levels in
-    let read : c.signed-total.result ≡ totals s ds c.args.depth.of = c.signed-total.ensures.answer ∙ ap signed c.total.ensures.answer ∙ ap (totals s ds) c.get-depth.ensures.answer in
+    let number : c.from-depth.result ≡ c.args.depth.of = search rules in
+    let read : c.signed-total.result ≡ totals s ds c.args.depth.of = c.signed-total.ensures.answer ∙ ap signed c.total.ensures.answer ∙ ap (totals s ds) number in
     let full : true ≡ leb (length ds) c.args.depth.of = search (rules, nat_tests) in
     record { answer = ap (λ z. both z z) (to_z-of_z w64 c.signed-total.result (record { sfits = c.signed-total.type_inv }) ∙ read) ∙ ends_by s ds c.args.depth.of true full }
 
 pub returns : goal.returns
 returns g c =
-    let s = setting c.args.components c.args.rows.now g.K.Kind.top in
+    let s = setting c.args.chances.components c.args.chances.rows.now g.K.Kind.TOP in
     let ds = map g.K.Kind.levels c.args.needs.now in
     let long = length-map c.args.needs.now g.K.Kind.levels in
     let filled : length c.fill_totals.new.totals ≡ c.args.depth.of = search rules in

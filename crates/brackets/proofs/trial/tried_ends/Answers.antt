@@ -1,4 +1,4 @@
-use Rattle.std.proofs.Common.{◌≡◌, ℕ, List, map, get_or, set, replicate, ap, ◌∙◌, set-set}
+use Rattle.std.proofs.Common.{◌≡◌, ℕ, List, map, get_or, set, replicate, ap, ◌∙◌, set-set, rules}
 use lib.Seq.{set-get_or}
 use Rattle.totals.specs.Choices.{setting}
 use Rattle.brackets.specs.Brackets.{ends}
@@ -12,16 +12,13 @@ set_back rows i row old d written back kept wrote wrote-back =
 
 pub returns-in_err-depth : goal.returns-in_err-depth
 returns-in_err-depth g c =
-    record { answer = simp c.from_residual.ensures c.in_err-depth.ensures.answer; after = set_back c.args.rows.now c.args.component c.args.row c.row_at-old.result (replicate 3 0) c.write_row.new.rows _ c.row_at-old.ensures.answer c.write_row.ensures.after c.drop-trial.ensures.after }
+    record { answer = search rules; after = set_back c.args.rows.now c.args.component c.args.row c.row_at-old.result (replicate 3 0) c.write_row.new.rows _ c.row_at-old.ensures.answer c.write_row.ensures.after c.drop-trial.ensures.after }
 
 pub returns : goal.returns
 returns g c =
-    let ends_by : List (List ℕ) → ℕ → Ends = λ rows depth. ends (setting c.args.components rows g.K.Kind.top) (map g.K.Kind.levels c.args.needs.now) depth in
+    let ends_by : List (List ℕ) → ℕ → Ends = λ rows depth. ends (setting c.args.components rows g.K.Kind.TOP) (map g.K.Kind.levels c.args.needs.now) depth in
+    let is : c.in_ok-depth.depth.of ≡ c.args.depth = search rules in
     record {
-      answer = (
-        c.bracket_ends.ensures.answer ∙ ap (λ rows. ends_by rows c.in_ok-depth.depth.of) c.write_row.ensures.after ∙ ap (ends_by _) c.in_ok-depth.ensures.answer.0,
-        c.in_ok-depth.ensures.answer.1,
-        c.in_ok-depth.ensures.answer.2,
-      );
+      answer = (c.bracket_ends.ensures.answer ∙ ap (λ rows. ends_by rows c.in_ok-depth.depth.of) c.write_row.ensures.after ∙ ap (ends_by _) is, search rules, search rules);
       after = set_back c.args.rows.now c.args.component c.args.row c.row_at-old.result (replicate 3 0) c.write_row.new.rows _ c.row_at-old.ensures.answer c.write_row.ensures.after c.drop-trial-2.ensures.after;
     }

@@ -3,4 +3,4 @@ use Rattle.calls.proofs.Pages.{SoFar}
 use Rattle.calls.proofs.list.send_all.Given as goal
 
 abbrev pub invariant-loop-i : goal.invariant-loop-i
-invariant-loop-i g l = SoFar g.K.Kind.levels g.K.Kind.top g.A.Algebra.model g.A.Algebra.means (page_of l.initial.sheet).storage l.calls l.initial.answers l.i (page_of l.sheet) l.answers
+invariant-loop-i g l = SoFar g.K.Kind g.A.Algebra (page_of l.initial.sheet).storage l.calls l.initial.answers l.i (page_of l.sheet) l.answers

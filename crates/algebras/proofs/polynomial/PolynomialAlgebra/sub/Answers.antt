@@ -1,13 +1,7 @@
-use Rattle.std.proofs.Common.{refl, arith}
+use Rattle.std.proofs.Common.{refl, rules, arith}
 use Rattle.algebras.specs.Residues.{minus}
-use Rattle.algebras.proofs.Places.{merged_none, merged_more, merged_all}
+use Rattle.algebras.proofs.Places.{made, at_past_both}
 use Rattle.algebras.proofs.polynomial.PolynomialAlgebra.sub.Goals as goal
 
-pub loop-power-init : goal.loop-power-init
-loop-power-init c = merged_none minus c.args.a.of c.args.b.of (omega arith)
-
-pub loop-power-preserved : goal.loop-power-preserved
-loop-power-preserved c = merged_more minus _ _ _ c.loop-power.invariant c.loop-power-test.true c.minus.ensures.answer
-
 pub returns : goal.returns
-returns c = record { answer = merged_all minus _ _ c.loop-power.invariant c.loop-power-test.false (omega arith) (omega arith) refl }
+returns c = record { answer = made _ _ _ _ (λ k x f' within call. search rules) c.from_fn.ensures.items (λ k h. at_past_both minus c.args.a.of c.args.b.of refl k (omega arith) (omega arith)) }

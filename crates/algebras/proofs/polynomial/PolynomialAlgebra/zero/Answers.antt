@@ -3,4 +3,4 @@ use Rattle.algebras.proofs.Places.{at_zeros}
 use Rattle.algebras.proofs.polynomial.PolynomialAlgebra.zero.Goals as goal
 
 pub returns : goal.returns
-returns c = record { answer = fun_ext (at_zeros 25 c.new.result c.new.ensures.answer) }
+returns c = record { answer = fun_ext (at_zeros 25 c.from.result c.from.ensures) }

@@ -1,6 +1,0 @@
-use Rattle.std.proofs.Common.{sym, rules}
-use Rattle.std.proofs.lemmas.List.{set_past}
-use Rattle.weights.proofs.card.write_row.Goals as goal
-
-pub returns-else-component-lt-COMPONENTS : goal.returns-else-component-lt-COMPONENTS
-returns-else-component-lt-COMPONENTS c = record { after = sym (set_past c.args.rows.now c.args.component c.args.row (search rules)) }
