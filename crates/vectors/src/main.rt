@@ -7,6 +7,7 @@ ghost use Rattle.std.specs.Prelude.{◌≡◌, ◌≤◌};
 use anyhow::anyhow;
 use reports::report;
 use std::alloc::{AllocError, Global};
+use std::fmt;
 use std::io::{BufRead, BufReader};
 
 fn digit(c: u8) -> u8
@@ -36,7 +37,8 @@ fn run(rt: &HostRuntime) -> anyhow::Result<()> {
             .split_once(' ')
             .ok_or_else(|| anyhow!("a line wants a name and a file"))?;
         let input = decode(rt.alloc(), hex)?;
-        let text = report(rt.alloc(), input.as_slice())?;
+        // A report for which there is no memory is told of as text that can't be written.
+        let text = report(rt.alloc(), input.as_slice()).map_err(|_| fmt::Error)?;
         print!(rt; "# {name}\n{text}")?;
     }
     Ok(())
