@@ -1,10 +1,12 @@
 -- Arrays of residues as polynomials. Assumes nothing.
-use Rattle.std.proofs.Common.{◌≡◌, ℕ, zero, suc, ◌+◌, ◌-◌, ◌<◌, ◌≤◌, List, ◌∷◌, length, replicate, refl, ap, ◌∙◌, sym, subst, ⊎_elim, arith}
+use Rattle.std.proofs.Common.{◌≡◌, ℕ, zero, suc, ◌+◌, ◌-◌, ◌<◌, ◌≤◌, List, [], ◌∷◌, ◌++◌, length, take, drop, replicate, refl, ap, ◌∙◌, sym, subst, inl, inr, ⊎_elim, append-nil, length-append, length-drop, arith}
+use borrow.Rule.Slice.PartMut.{put_mid}
+use lib.ListN.{length-replicate}
 use Rattle.std.specs.Array.{IsFromFnResult, IsFromFnResultFrom}
 use Rattle.std.specs.Fn.{Called}
 use denote.Param.Members.{Mut}
 use mathlib.Core.Path.{fun_ext}
-use Rattle.std.proofs.lemmas.List.{get_or_past}
+use Rattle.std.proofs.lemmas.List.{get_or_past, get_or_append_left, get_or-append_right, get_or-take, take-replicate, drop_all, length-take-le}
 use Rattle.std.proofs.lemmas.Bool.{and_from, and_left, and_right, cases_lt, cond-false, cond-true, le-leb, lt-leb}
 use Rattle.algebras.specs.Residues.{Number, number}
 use Rattle.algebras.specs.ResidueLaws.{same_number}
@@ -56,3 +58,31 @@ module _ (l : ℕ) (f : Polynomials) (k : ℕ) where
 
   pub shifted_past : 25 ≤ k → shifted l f k ≡ number 0
   shifted_past h = cond-false _ _ _ (and_right _ _ (lt-leb k 24 (omega arith)))
+
+-- as many coefficients as stay below the 25th, copied into zeros from the last place down: the polynomial shifted by l
+module _ (l kept : ℕ) (z : Residue) (vs : List Residue) (none : meaning z ≡ number 0) (long : length vs ≡ 25) (fits : kept ≡ 25 - l) where
+  moved_whole : length (replicate (25 - kept) z ++ take kept vs) ≡ 25
+  moved_whole = omega (arith, length-append (replicate (25 - kept) z) (take kept vs), length-replicate (25 - kept) z, length-take-le kept vs (omega arith))
+
+  moved_at : (k : ℕ) → at (replicate (25 - kept) z ++ take kept vs) k ≡ shifted l (at vs) k
+  moved_at k = elim (cases_lt k (25 - kept)) [
+    | inl low ↦
+        ap meaning (get_or_append_left (replicate (25 - kept) z) (take kept vs) _ k (omega (arith, length-replicate (25 - kept) z)))
+        ∙ at_zeros (25 - kept) z none k
+        ∙ sym (shifted_low l (at vs) k (omega arith))
+    | inr high ↦ elim (cases_lt k 25) [
+      | inl within ↦
+          let back : k - (25 - kept) ≡ k - l = omega arith in
+          ap meaning (get_or-append_right (replicate (25 - kept) z) (take kept vs) (25 - kept) k _ (length-replicate (25 - kept) z) (omega arith) ∙ get_or-take kept vs (k - (25 - kept)) _ (omega arith))
+          ∙ ap (at vs) back
+          ∙ sym (shifted_kept l (at vs) k (omega arith) within)
+      | inr past ↦ at_past (replicate (25 - kept) z ++ take kept vs) k (omega (arith, moved_whole)) ∙ sym (shifted_past l (at vs) k (omega arith))
+    ]
+  ]
+
+  pub moved : (ys : List Residue) → ys ≡ take kept vs → at (put_mid (25 - kept) (25 - (25 - kept)) (replicate 25 z) ys) ≡ shifted l (at vs)
+  moved ys copied =
+      let front : take (25 - kept) (replicate 25 z) ≡ replicate (25 - kept) z = take-replicate (25 - kept) 25 z (omega arith) in
+      let behind : drop (25 - (25 - kept)) (drop (25 - kept) (replicate 25 z)) ≡ [] = drop_all _ (drop (25 - kept) (replicate 25 z)) (omega (arith, length-drop (25 - kept) (replicate 25 z), length-replicate 25 z)) in
+      ap at (ap (λ xs. xs ++ (ys ++ drop (25 - (25 - kept)) (drop (25 - kept) (replicate 25 z)))) front ∙ ap (λ xs. replicate (25 - kept) z ++ (ys ++ xs)) behind ∙ ap (λ xs. replicate (25 - kept) z ++ xs) (append-nil ys ∙ copied))
+      ∙ fun_ext moved_at

@@ -69,15 +69,9 @@ impl Algebra for Polynomial {
         _component: usize,
         level: u8,
     ) -> Coefficients {
-        let shift = usize::from(level);
-        Coefficients {
-            of: array::from_fn(|power| {
-                if power < shift {
-                    Residue::from(0)
-                } else {
-                    value.of[power - shift]
-                }
-            }),
-        }
+        let kept = POWERS.saturating_sub(usize::from(level));
+        let mut of = [Residue::from(0); POWERS];
+        of[POWERS - kept..].copy_from_slice(&value.of[..kept]);
+        Coefficients { of }
     }
 }

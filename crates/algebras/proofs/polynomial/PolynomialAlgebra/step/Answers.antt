@@ -1,10 +1,7 @@
-use Rattle.std.proofs.Common.{rules}
-use Rattle.algebras.specs.Models.{shifted}
-use Rattle.algebras.specs.Meanings.{coefficients}
-use Rattle.algebras.proofs.Places.{made, shifted_low, shifted_kept, shifted_past}
+use Rattle.std.proofs.Common.{rules, arith}
+use Rattle.algebras.proofs.Places.{moved}
 use Rattle.algebras.proofs.polynomial.PolynomialAlgebra.step.Goals as goal
 
 pub returns : goal.returns
 returns c =
-    let value = coefficients c.args.value in
-    record { answer = made _ (shifted c.args.level value) _ _ (λ k x f' within call. search (rules, shifted_low, shifted_kept)) c.from_fn.ensures.items (shifted_past c.args.level value) }
+    record { answer = moved c.args.level c.saturating_sub-kept.result c.from-of.result c.args.value.of c.from-of.ensures (search rules) (omega (arith, c.saturating_sub-kept.ensures, c.from.ensures)) c.copy_from_slice.new.self c.copy_from_slice.ensures.after }
