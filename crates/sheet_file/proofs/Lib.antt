@@ -1,7 +1,6 @@
 pub mod Fronts
 pub mod Refused
 pub mod Words
-pub mod Arrays
 pub mod Heads
 pub mod Records
 pub mod Reached

@@ -1,5 +1,5 @@
 -- What trimming leaves of a row, and a row written into a card. Assumes nothing.
-use Rattle.std.proofs.Common.{◌≡◌, ℕ, zero, suc, ◌<◌, ◌≤◌, List, [], ◌∷◌, get_or, set, refl, ap, arith}
+use Rattle.std.proofs.Common.{◌≡◌, ℕ, zero, suc, ◌<◌, ◌≤◌, List, [], ◌∷◌, length, get_or, set, refl, ap, arith}
 use Rattle.weights.specs.Chances.{weight, trimmed}
 
 -- what a trimmed row keeps, and what it notes as 0
@@ -15,6 +15,11 @@ trimmed_from zero (w ∷ row) zero h = refl
 trimmed_from zero (w ∷ row) (suc k) h = trimmed_from zero row k (omega arith)
 trimmed_from (suc top) (w ∷ row) zero h = omega arith
 trimmed_from (suc top) (w ∷ row) (suc k) h = trimmed_from top row k (omega arith)
+
+pub length_trimmed : (top : ℕ) (row : List ℕ) → length (trimmed top row) ≡ length row
+length_trimmed top [] = refl
+length_trimmed zero (w ∷ row) = ap suc (length_trimmed zero row)
+length_trimmed (suc top) (w ∷ row) = ap suc (length_trimmed top row)
 
 pub weight_trimmed : (top : ℕ) (row : List ℕ) (l : ℕ) → l ≤ top → weight (trimmed top row) l ≡ weight row l
 weight_trimmed top row zero h = refl

@@ -1,31 +1,51 @@
-use Rattle.std.proofs.Common.{◌≡◌, ℕ, zero, suc, ◌+◌, ◌<◌, ◌≤◌, Bool, true, false, List, length, get_or, take, min, Decides, refl, rules, arith, sym, ◌∙◌, inl, inr, add-one}
+use Rattle.std.proofs.Common.{◌≡◌, ℕ, zero, suc, ◌+◌, ◌<◌, ◌≤◌, Bool, true, false, List, length, get_or, Decides, refl, rules, arith, sym, ap, subst, ◌∙◌, inl, inr, add-one}
 use lib.Dec.{leb}
 use Rattle.std.specs.List.{IsAllAdjacentAnswer}
-use Rattle.std.proofs.lemmas.Bool.{cases_lt, leb-true, leb-false, false≢true}
-use Rattle.std.proofs.lemmas.List.{get_or_past, get_or-take, length-take}
+use Rattle.std.proofs.lemmas.Bool.{cases_lt, leb-true, leb-false, false≢true, le-leb}
+use Rattle.std.proofs.lemmas.Bool.Decides.{Decides-like}
+use Rattle.std.proofs.lemmas.List.{get_or_past}
 use Rattle.std.proofs.lemmas.List.Sorted.{answers_always}
-use Rattle.weights.specs.Chances.{weight, Falling}
+use Rattle.weights.specs.Chances.{weight, Falling, trimmed}
+use Rattle.weights.proofs.Rows.{weight_trimmed, length_trimmed}
+use Rattle.weights.proofs.Falling.{trimmed_falling}
 use Rattle.weights.proofs.row.falls.Goals as goal
 
--- two neighbours among the first n weights
-two : (row : List ℕ) (n k : ℕ) → k + 1 < n → (get_or (take n row) k 0 ≡ weight row (suc k)) × (get_or (take n row) (k + 1) 0 ≡ weight row (suc (suc k)))
-two row n k h = (get_or-take n row k 0 (omega arith), get_or-take n row (k + 1) 0 h ∙ rw add-one)
+next : (row : List ℕ) (k : ℕ) → get_or row (k + 1) 0 ≡ weight row (suc (suc k))
+next row k = rw add-one
 
--- a row falls if its first n weights do: up to the top it has no more
-fell : (top : ℕ) (row : List ℕ) (n : ℕ) (r : Bool) → n ≡ min (length row) top → (0 < n → get_or row 0 0 ≤ 64) → IsAllAdjacentAnswer (λ x y b. b ≡ leb y x) (take n row) r → Decides r (Falling top row)
-fell top row n true kept first each = (λ _. falls, λ _. refl)
+-- a whole row falls if its first weight is no more than certainty and no weight is more than the one before
+fell : (row : List ℕ) (r : Bool) → length row ≡ 3 → get_or row 0 0 ≤ 64 → IsAllAdjacentAnswer (λ x y b. b ≡ leb y x) row r → Decides r (Falling 3 row)
+fell row true long first each = (λ _. falls, λ _. refl)
   where
-    falls : Falling top row
-    falls zero h = elim (cases_lt 0 n) [ inl under ↦ first under | inr past ↦ omega (arith, get_or_past row 0 0 (omega arith)) ]
-    falls (suc k) h = elim (cases_lt (k + 1) n) [
-      | inl within ↦ omega (arith, leb-true _ _ (sym (each k 0 (omega (arith, length-take n row)))), two row n k within)
-      | inr past ↦ omega (arith, get_or_past row (suc k) 0 (omega arith))
-    ]
-fell top row n false kept first each =
+    falls : Falling 3 row
+    falls zero h = first
+    falls (suc k) h = omega (arith, leb-true _ _ (sym (each k 0 (omega arith))), next row k)
+fell row false long first each =
     let k = each.0 in
-    let within : k + 1 < n = omega (arith, length-take n row) in
-    (λ no. absurd (false≢true no), λ falls. absurd (omega (arith, leb-false _ _ (sym (each.2 0)), falls (suc k) (omega arith), two row n k within)))
+    (λ no. absurd (false≢true no), λ falls. absurd (omega (arith, leb-false _ _ (sym (each.2 0)), falls (suc k) (omega arith), next row k)))
 
-pub returns-then-is_none_or : goal.returns-then-is_none_or
-returns-then-is_none_or c =
-    record { answer = fell c.args.top c.args.row.now c.min.result c.is_sorted_by.result (search rules) (λ h. search rules) (c.is_sorted_by.ensures.cases (λ x y. leb y x) (answers_always _ _ _ (λ f a r g h. search rules))) }
+-- a row falls up to the top if what trimming leaves of it falls whole
+whole : (top : ℕ) (row : List ℕ) → length row ≡ 3 → Falling 3 (trimmed top row) → Falling top row
+whole top row long falls l h = elim (cases_lt l 3) [
+  | inl within ↦ omega (arith, falls l within, weight_trimmed top row l (omega arith), weight_trimmed top row (suc l) h)
+  | inr past ↦ omega (arith, get_or_past row l 0 (omega arith))
+]
+
+pub returns-then-held-le-CERTAIN : goal.returns-then-held-le-CERTAIN
+returns-then-held-le-CERTAIN c =
+    let top = c.args.top in
+    let row = c.args.row.now in
+    let held = c.trimmed-held.result in
+    let is : held ≡ trimmed top row = c.trimmed-held.ensures.answer in
+    let long : length row ≡ 3 = search rules in
+    let short : length held ≡ 3 = ap length is ∙ length_trimmed top row ∙ long in
+    let decides = fell held c.is_sorted_by.result short (search rules) (c.is_sorted_by.ensures.cases (λ x y. leb y x) (answers_always _ _ _ (λ f a r g h. search rules))) in
+    record { answer = Decides-like c.is_sorted_by.result (λ f. whole top row long (subst (Falling 3) is f)) (λ f. subst (Falling 3) (sym is) (trimmed_falling top row f 3)) decides }
+
+pub returns-else-held-le-CERTAIN : goal.returns-else-held-le-CERTAIN
+returns-else-held-le-CERTAIN c =
+    let top = c.args.top in
+    let row = c.args.row.now in
+    let held = c.trimmed-held.result in
+    let is : held ≡ trimmed top row = c.trimmed-held.ensures.answer in
+    record { answer = (λ yes. absurd (search (rules, false≢true)), λ falls. le-leb _ _ (subst (Falling 3) (sym is) (trimmed_falling top row falls 3) 0 (omega arith))) }

@@ -1,6 +1,6 @@
 use Rattle.std.proofs.Common.{◌*◌, ◌∷◌, get_or, of_calls, sym, ap, ◌∙◌, rules, take-append-drop}
 use Rattle.sheet_file.specs.Layout.{words}
-use Rattle.sheet_file.proofs.Arrays.{three_read}
+use Rattle.weights.proofs.Arrays.{three_read}
 use Rattle.sheet_file.proofs.Words.{row_filled}
 use Rattle.sheet_file.proofs.filed.Filed.split_weights.Goals as goal
 

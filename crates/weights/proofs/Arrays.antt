@@ -3,7 +3,7 @@ use Rattle.std.proofs.Common.{◌≡◌, ℕ, List, [], ◌∷◌, length, get_o
 use Rattle.std.specs.Fn.{Mut, Called}
 use Rattle.std.specs.Array.{IsFromFnResult, IsFromFnResultFrom}
 
-three : (ys : List ℕ) → length ys ≡ 3 → ys ≡ get_or ys 0 0 ∷ get_or ys 1 0 ∷ get_or ys 2 0 ∷ []
+pub three : (ys : List ℕ) → length ys ≡ 3 → ys ≡ get_or ys 0 0 ∷ get_or ys 1 0 ∷ get_or ys 2 0 ∷ []
 three [] long = absurd (omega arith)
 three (a ∷ []) long = absurd (omega arith)
 three (a ∷ b ∷ []) long = absurd (omega arith)
