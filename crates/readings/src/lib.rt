@@ -21,7 +21,7 @@ pub fn weight_of(reading: f64) -> Option<u16>
     // Exact, since 64 is a power of two and the reading is at most 1.
     let scaled = reading * 64.0;
     // A cast would have to drop a fraction: weights are tried from certainty down instead.
-    (0..=CERTAIN)
+    (0..CERTAIN + 1)
         .rev()
         .find(|weight| f64::from(*weight) <= scaled)
 }

@@ -1,6 +1,6 @@
 use Rattle.std.proofs.Common.{rules, ◌≡◌, ℕ, ◌≤◌, Some, MatchOption, pos, refl, sym, ◌∙◌, subst}
 use lib.Ieee.{binary64, of_int, of_bits, mul, le}
-use Rattle.std.proofs.iter.runs.Sources.{inclusive_listed_back}
+use Rattle.std.proofs.iter.runs.Sources.{range_listed_back}
 use Rattle.readings.proofs.Descent.{Largest, largest_from_find, largest_is}
 use Rattle.std.proofs.lemmas.Bool.{false≢true}
 use Rattle.std.specs.Option.{IfSome}
@@ -13,8 +13,8 @@ found : (c : goal.After-find) → Largest (λ w. le (of_int binary64 (pos w)) (m
 found c =
     let find = c.find.ensures.runs in
     let back = c.rev.ensures.runs find.0 find.0.seen find.1 in
-    let down = inclusive_listed_back back.0 back.0.seen in
-    largest_from_find _ _ _ find.0 back.0 64 down.0 down.1 (search rules) (search rules) back.2 (down.4 (search rules)).0 (λ x b q called. search rules) (λ x b q called. search rules) c.find.result find.2
+    let down = range_listed_back back.0 back.0.seen in
+    largest_from_find _ _ _ find.0 back.0 64 down.0 down.1 (search rules) (search rules) back.2 down.4 (λ x b q called. search rules) (λ x b q called. search rules) c.find.result find.2
 
 is : (c : goal.After-find) → IsChance c.args.reading → c.find.result ≡ Some (sixty_fourths c.args.reading)
 is c chance =
