@@ -1,6 +1,7 @@
--- The lowest place of a need of which something is so, as `position` over the needs tells it. Assumes nothing.
-use Rattle.std.proofs.Common.{◌≡◌, ℕ, zero, suc, ◌<◌, Bool, List, [], ◌∷◌, Option, Some, None, Iter, map, length, get_or, Decides, MatchOption, refl, arith}
+-- Needs by place, and the lowest place of one of which something is so, as `position` over the needs tells it. Assumes nothing.
+use Rattle.std.proofs.Common.{◌≡◌, ℕ, zero, suc, ◌<◌, Bool, List, [], ◌∷◌, Option, Some, None, Iter, map, length, get_or, Decides, MatchOption, refl, sym, ap, ◌∙◌, arith}
 use lib.ListN.{length-map}
+use Rattle.std.proofs.lemmas.List.{get_or-map}
 use denote.Ref.{Bor}
 use denote.Param.Members.{Mut}
 use Rattle.std.proofs.iter.Yields.{fronts}
@@ -14,21 +15,24 @@ use Rattle.needs.specs.Levels.{Need}
 use Rattle.clutters.specs.Clutters.{At, Lowest}
 
 module _ {K : Type 0} (levels : K → Need) where
+  pub need_at : (xs : List K) (p : ℕ) (x : K) → p < length xs → x ≡ get_or xs p x → get_or (map levels xs) p (λ i. 0) ≡ levels x
+  need_at xs p x h read = get_or-map levels xs p x (λ i. 0) h ∙ ap levels (sym read)
+
   -- what is so of the levels of an element is so of the need in its place
-  need_at : (P : Need → Type 0) (xs : List K) (p : ℕ) → p < length xs → HoldsAt (λ x. P (levels x)) xs p → P (get_or (map levels xs) p (λ i. 0))
-  need_at P [] p h holds = absurd (omega arith)
-  need_at P (x ∷ xs) zero h holds = holds x
-  need_at P (x ∷ xs) (suc p) h holds = need_at P xs p (omega arith) holds
+  so_at : (P : Need → Type 0) (xs : List K) (p : ℕ) → p < length xs → HoldsAt (λ x. P (levels x)) xs p → P (get_or (map levels xs) p (λ i. 0))
+  so_at P [] p h holds = absurd (omega arith)
+  so_at P (x ∷ xs) zero h holds = holds x
+  so_at P (x ∷ xs) (suc p) h holds = so_at P xs p (omega arith) holds
 
   lowest_from_first : (So : Need → Type 0) (xs : List K) (r : Option ℕ)
       → MatchOption r (AllWithin (λ x. So (levels x) → ⊥) xs 0 (length xs)) (λ i. (i < length xs) × HoldsAt (λ x. So (levels x)) xs i × AllWithin (λ x. So (levels x) → ⊥) xs 0 i)
       → MatchOption r ((p : ℕ) → At So (map levels xs) p → ⊥) (Lowest (At So (map levels xs)))
   lowest_from_first So xs None none = λ p at.
       let within = simp length-map at at.0 in
-      need_at (λ d. So d → ⊥) xs p within (λ x. none p x (omega arith) within) at.1
+      so_at (λ d. So d → ⊥) xs p within (λ x. none p x (omega arith) within) at.1
   lowest_from_first So xs (Some i) found = (
-    (simp length-map found.0, need_at So xs i found.0 found.1),
-    λ q less at. need_at (λ d. So d → ⊥) xs q (omega (arith, found.0)) (λ x. found.2 q x (omega arith) less) at.1,
+    (simp length-map found.0, so_at So xs i found.0 found.1),
+    λ q less at. so_at (λ d. So d → ⊥) xs q (omega (arith, found.0)) (λ x. found.2 q x (omega arith) less) at.1,
   )
 
   -- each call of the test decides whether it is so of an element

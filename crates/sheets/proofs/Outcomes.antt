@@ -23,12 +23,12 @@ use Rattle.sheets.proofs.Settled.{fitted_settled, struck_settled, weighted_settl
 use Rattle.sheets.proofs.Reliable.{sheet_proper, fit_raises, strike_lowers}
 
 -- a cause that does not hold leaves the outcome to those behind it
-passes : {T : Type 0} (r : Result T Refusal) (c : ℕ × Type 0) (cs : List (ℕ × Type 0)) → (c.1 → ⊥) → Outcome r cs → Outcome r (c ∷ cs)
+pub passes : {T : Type 0} (r : Result T Refusal) (c : ℕ × Type 0) (cs : List (ℕ × Type 0)) → (c.1 → ⊥) → Outcome r cs → Outcome r (c ∷ cs)
 passes (Ok x) c cs absent rest = (absent, rest)
 passes (Err e) c cs absent rest = inr (absent, rest)
 
 -- what holds after an accepted call, and held before it, holds after the call
-by_outcome : {T X : Type 0} (P : X → Type 0) (r : Result T Refusal) (cs : List (ℕ × Type 0)) (before next after : X) → Outcome r cs → after ≡ cond (is_ok r) next before
+pub by_outcome : {T X : Type 0} (P : X → Type 0) (r : Result T Refusal) (cs : List (ℕ × Type 0)) (before next after : X) → Outcome r cs → after ≡ cond (is_ok r) next before
     → (Accepted cs → P next) → P before → P after
 by_outcome P (Ok x) cs before next after accepted is there here = subst P (sym is) (there accepted)
 by_outcome P (Err e) cs before next after refused is there here = subst P (sym is) here
